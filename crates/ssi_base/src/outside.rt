@@ -1,0 +1,3 @@
+/// The outside could not give or take bytes.
+#[derive(Clone, Copy, Debug, PartialEq, Eq)]
+pub struct Failed;
