@@ -1,0 +1,4 @@
+pub mod Facts
+pub mod NameLists
+pub mod Values
+pub mod Effects

@@ -1,0 +1,145 @@
+//! Kinds of identities, and the numbers of the facts of a state.
+
+ghost use Rattle.std.specs.Prelude.{◌≡◌, ◌<◌, ◌≤◌, ◌+◌, ◌*◌};
+ghost use Rattle.ssi_identities.specs.declared.fact.Counts.{Counts};
+ghost use Rattle.ssi_identities.specs.Facts.{IsWithinLimits, count_of, fact_count_of, fact_number_of, first_of_routes};
+
+/// A kind of identity.
+#[derive(Clone, Copy, Debug, PartialEq, Eq)]
+pub enum Kind {
+    Points,
+    Signal,
+    Track,
+    Route,
+    Subroute,
+    Flag,
+    Request,
+}
+
+/// A kind of fact. Each fact of a state is of one kind and of one identity.
+#[derive(Clone, Copy, Debug, PartialEq, Eq)]
+pub enum FactKind {
+    /// The points are controlled reverse.
+    Reverse,
+    /// The points are detected normal.
+    DetectedNormal,
+    /// The points are detected reverse.
+    DetectedReverse,
+    /// The signal's lamp is proved.
+    Lamp,
+    /// The track is occupied.
+    Occupied,
+    /// The route is set.
+    RouteSet,
+    /// The route is barred.
+    RouteBarred,
+    /// The sub-route is locked.
+    Locked,
+    /// The flag is set.
+    FlagSet,
+}
+
+/// How many identities of each kind there are.
+#[derive(Clone, Copy, Debug, PartialEq, Eq)]
+pub struct Counts {
+    pub points: u16,
+    pub signals: u16,
+    pub tracks: u16,
+    pub routes: u16,
+    pub subs: u16,
+    pub flags: u16,
+    pub requests: u16,
+}
+
+/// How many facts a state has, at most 3,946.
+pub fn fact_count(counts: &Counts) -> u16
+    requires { IsWithinLimits counts.now }
+    ensures { result ≡ fact_count_of counts.now }
+{
+    3 * counts.points
+        + counts.signals
+        + counts.tracks
+        + 2 * counts.routes
+        + counts.subs
+        + counts.flags
+}
+
+/// The number of a fact, by its kind and its identity's number.
+pub fn fact_number(counts: &Counts, kind: FactKind, index: u16) -> u16
+    requires limits { IsWithinLimits counts.now }
+    requires within { index < count_of counts.now kind }
+    ensures { result ≡ fact_number_of counts.now kind index }
+{
+    let lamps = 3 * counts.points;
+    let tracks = lamps + counts.signals;
+    let routes = tracks + counts.tracks;
+    let subs = routes + 2 * counts.routes;
+    match kind {
+        FactKind::Reverse => 3 * index,
+        FactKind::DetectedNormal => 3 * index + 1,
+        FactKind::DetectedReverse => 3 * index + 2,
+        FactKind::Lamp => lamps + index,
+        FactKind::Occupied => tracks + index,
+        FactKind::RouteSet => routes + 2 * index,
+        FactKind::RouteBarred => routes + 2 * index + 1,
+        FactKind::Locked => subs + index,
+        FactKind::FlagSet => subs + counts.subs + index,
+    }
+}
+
+/// The kind of a fact and its identity's number, by the fact's number.
+pub fn fact_of(counts: &Counts, fact: u16) -> (FactKind, u16)
+    requires limits { IsWithinLimits counts.now }
+    requires within { fact < fact_count_of counts.now }
+    ensures within { result.1 < count_of counts.now result.0 }
+    ensures number { fact_number_of counts.now result.0 result.1 ≡ fact }
+{
+    let lamps = 3 * counts.points;
+    let tracks = lamps + counts.signals;
+    let routes = tracks + counts.tracks;
+    let subs = routes + 2 * counts.routes;
+    if fact < lamps {
+        return points_fact(fact);
+    }
+    if fact < tracks {
+        return (FactKind::Lamp, fact - lamps);
+    }
+    if fact < routes {
+        return (FactKind::Occupied, fact - tracks);
+    }
+    if fact < subs {
+        return route_fact(fact - routes);
+    }
+    if fact < subs + counts.subs {
+        return (FactKind::Locked, fact - subs);
+    }
+    (FactKind::FlagSet, fact - subs - counts.subs)
+}
+
+/// The kind of a fact of points and the points' number.
+fn points_fact(fact: u16) -> (FactKind, u16)
+    ensures within { 3 * result.1 ≤ fact }
+    ensures number { (counts : Counts) → fact_number_of counts result.0 result.1 ≡ fact }
+    ensures kind { (counts : Counts) → count_of counts result.0 ≡ counts.points }
+{
+    let index = fact / 3;
+    match fact % 3 {
+        0 => (FactKind::Reverse, index),
+        1 => (FactKind::DetectedNormal, index),
+        _ => (FactKind::DetectedReverse, index),
+    }
+}
+
+/// The kind of a fact of a route and the route's number, by the fact's place among those of routes.
+fn route_fact(place: u16) -> (FactKind, u16)
+    ensures within { 2 * result.1 ≤ place }
+    ensures number { (counts : Counts) → fact_number_of counts result.0 result.1 ≡ first_of_routes counts + place }
+    ensures kind { (counts : Counts) → count_of counts result.0 ≡ counts.routes }
+{
+    let index = place / 2;
+    if place % 2 == 0 {
+        (FactKind::RouteSet, index)
+    } else {
+        (FactKind::RouteBarred, index)
+    }
+}
