@@ -1,0 +1,5 @@
+pub mod Digits
+pub mod Faults
+pub mod InMemory
+pub mod OverStd
+pub mod Streams

@@ -1,0 +1,20 @@
+// A whole piece is written.
+ghost use Rattle.std.specs.Prelude.{◌≡◌, [], IsOk};
+ghost use Rattle.ssi_base.specs.Streams.{Writes};
+
+use crate::outside::{Failed, Sink};
+
+/// Writes the whole piece. After `Failed` a part of it was written that isn't the whole. For an
+/// empty piece the sink isn't called.
+pub fn write_all<K: Sink>(sink: &mut K, piece: &[u8]) -> Result<(), Failed>
+    ensures written { Writes (K.written sink.old) (K.written sink.new)
+        (K.faults sink.old) (K.faults sink.new) piece.now result }
+    ensures empty { piece.now ≡ [] → IsOk result }
+    ensures untouched { piece.now ≡ [] → sink.new ≡ sink.old }
+{
+    let mut done = 0;
+    while done < piece.len() {
+        done += sink.write(&piece[done..])?;
+    }
+    Ok(())
+}
