@@ -1,0 +1,20 @@
+use Rattle.std.proofs.Common.{◌∙◌, drop}
+use Rattle.ssi_lexer.specs.Scan.{tokens_of}
+use Rattle.ssi_lexer.proofs.Streams.{first_cursor, from_byte, tokens_are, front_formed}
+use Rattle.ssi_lexer.proofs.Standing.{stream_stands}
+use Rattle.ssi_lexer.proofs.tokens.Tokens.new.Goals as goal
+
+pub invariant_of-result : goal.invariant_of-result
+invariant_of-result c =
+    let text = c.args.text.now in
+    record {
+      within = c.cut_front.ensures.within;
+      characters = c.cut_front.ensures.characters;
+      formed = front_formed (first_cursor c.args.start) (drop c.args.start text) (tokens_of c.cut_front.result) (c.cut_front.ensures.tokens ∙ from_byte c.args.start text);
+      stand = stream_stands text c.args.start (tokens_of c.cut_front.result) c.requires.within (c.cut_front.ensures.tokens ∙ from_byte c.args.start text);
+    }
+
+pub returns-clause-tokens : goal.returns-clause-tokens
+returns-clause-tokens c =
+    let text = c.args.text.now in
+    tokens_are text c.args.start (tokens_of c.cut_front.result) (c.cut_front.ensures.tokens ∙ from_byte c.args.start text)

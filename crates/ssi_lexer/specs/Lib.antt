@@ -1,0 +1,5 @@
+pub mod Pieces
+pub mod Lexemes
+pub mod Readings
+pub mod Scan
+pub mod Shown

@@ -1,0 +1,16 @@
+//! Tokens of a text: names, words, numbers and marks, with their places.
+//!
+//! The layer above may rely on [`Tokens`], which gives the tokens of a text in order, with number and
+//! place, up to the end of the text or its first lexical fault: those of the one cutting of the text
+//! (`AreTokens`), and no others. It stands on `ssi_base` for places.
+#![tactic(auto)]
+
+mod scan;
+mod token;
+mod tokens;
+
+pub use token::{BAD_CHARACTER, BAD_NUMBER, LONG_NAME, LexFault, TextEnd, Token, TokenKind};
+pub use tokens::{Tokens, one_cutting, tokens_stand};
+
+#[cfg(test)]
+mod tests;
