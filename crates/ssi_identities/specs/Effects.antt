@@ -1,6 +1,5 @@
 -- What a body makes of a state.
-use Rattle.std.specs.Prelude.{ℕ, Bool, if◌then◌else◌, List, [], ◌∷◌, Option, Some, None, slice_set}
-use Rattle.ssi_identities.specs.declared.rule.Cmd.{Cmd}
+use Rattle.std.specs.Prelude.{if◌then◌else◌, List, [], ◌∷◌, Option, Some, None, slice_set}
 use Rattle.ssi_identities.specs.declared.rule.BodyItem.{BodyItem, fold-BodyItem}
 use Rattle.ssi_identities.specs.declared.rule.BodyItem.TheOpen.{BodyItem-F, Body-F}
 use Rattle.ssi_identities.specs.declared.rule.Body.{Body, fold-Body}

@@ -2,3 +2,4 @@ pub mod Facts
 pub mod NameLists
 pub mod Values
 pub mod Effects
+pub mod WorkedExamples

@@ -1,5 +1,5 @@
 -- States, and the value of a condition in a state.
-use Rattle.std.specs.Prelude.{ℕ, Bool, true, false, not, if◌then◌else◌, List, slice_index_or}
+use Rattle.std.specs.Prelude.{ℕ, Bool, false, not, if◌then◌else◌, List, slice_index_or}
 use Rattle.std.specs.List.{list_all}
 use Rattle.ssi_identities.specs.declared.rule.CondItem.{CondItem}
 use Rattle.ssi_identities.specs.declared.rule.CondItem.TheVariants.{Lit}

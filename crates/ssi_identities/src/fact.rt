@@ -4,15 +4,22 @@ ghost use Rattle.std.specs.Prelude.{◌≡◌, ◌<◌, ◌≤◌, ◌+◌, ◌*
 ghost use Rattle.ssi_identities.specs.declared.fact.Counts.{Counts};
 ghost use Rattle.ssi_identities.specs.Facts.{IsWithinLimits, count_of, fact_count_of, fact_number_of, first_of_routes};
 
-/// A kind of identity.
+/// A kind of identity. The first letter of an identity's name tells its kind.
 #[derive(Clone, Copy, Debug, PartialEq, Eq)]
 pub enum Kind {
+    /// Points, `P`.
     Points,
+    /// A signal, `S`.
     Signal,
+    /// A track, `T`.
     Track,
+    /// A route, `R`.
     Route,
+    /// A sub-route, `U`.
     Subroute,
+    /// A flag, `L`.
     Flag,
+    /// A request, `Q`. It has no facts.
     Request,
 }
 
@@ -42,12 +49,19 @@ pub enum FactKind {
 /// How many identities of each kind there are.
 #[derive(Clone, Copy, Debug, PartialEq, Eq)]
 pub struct Counts {
+    /// Points, at most 126 in a layout.
     pub points: u16,
+    /// Signals, at most 504.
     pub signals: u16,
+    /// Tracks, at most 504.
     pub tracks: u16,
+    /// Routes, at most 512.
     pub routes: u16,
+    /// Sub-routes, at most 1,024.
     pub subs: u16,
+    /// Flags, at most 512.
     pub flags: u16,
+    /// Requests, at most 1,024.
     pub requests: u16,
 }
 
@@ -64,7 +78,7 @@ pub fn fact_count(counts: &Counts) -> u16
         + counts.flags
 }
 
-/// The number of a fact, by its kind and its identity's number.
+/// The number of a fact, by its kind and its identity's number, which is below the count of the kind.
 pub fn fact_number(counts: &Counts, kind: FactKind, index: u16) -> u16
     requires limits { IsWithinLimits counts.now }
     requires within { index < count_of counts.now kind }
@@ -87,7 +101,7 @@ pub fn fact_number(counts: &Counts, kind: FactKind, index: u16) -> u16
     }
 }
 
-/// The kind of a fact and its identity's number, by the fact's number.
+/// The kind of a fact and its identity's number, by the fact's number, which is below [`fact_count`].
 pub fn fact_of(counts: &Counts, fact: u16) -> (FactKind, u16)
     requires limits { IsWithinLimits counts.now }
     requires within { fact < fact_count_of counts.now }

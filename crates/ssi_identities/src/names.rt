@@ -3,12 +3,11 @@
 ghost use Rattle.std.specs.Prelude.{◌≡◌, ◌<◌, [], ◌∷◌, ◌++◌, length, None, IfOk, OnOk, OnErr};
 ghost use Rattle.ssi_identities.specs.NameLists.{IsAdded, IsEmptyOfEach, names_of, number_of, with_names};
 
+use crate::fact::Kind;
 use indexmap::IndexSet;
 use ssi_base::OutOfMemory;
 use std::alloc::Global;
 use std::marker::Model;
-
-use crate::fact::Kind;
 
 /// How many kinds of identities there are.
 const KINDS: usize = 7;
@@ -82,7 +81,8 @@ impl Texts {
     }
 }
 
-/// The names of each kind. A name's number is its place in the list of its kind.
+/// The names of each kind, at most 65,535 of a kind. A name's number is its place in the list of its kind,
+/// and stays.
 #[derive(Drop)]
 pub struct Names {
     lists: Vec<Texts>,
@@ -110,7 +110,8 @@ impl Names {
         Ok(Names { lists })
     }
 
-    /// Adds a name of a kind, unless it is there. After an error nothing has changed.
+    /// Adds a name of a kind that has room for one more, unless it is there. The other kinds stay as they
+    /// were. After an error nothing has changed.
     pub fn add(&mut self, alloc: Global, kind: Kind, text: &[u8]) -> Result<Added, OutOfMemory>
         requires { length (names_of self.old kind) < 65535 }
         ensures ok { IfOk result (IsAdded (names_of self.old kind) (names_of self.new kind) text.now) }

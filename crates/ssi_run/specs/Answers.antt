@@ -1,0 +1,89 @@
+-- What the program answers to its words and its input.
+use Rattle.std.specs.Prelude.{◌≡◌, ◌≢◌, ℕ, ◌<◌, ◌≤◌, List, length, Option, Some, None}
+use Rattle.std.specs.Option.{IfSome}
+use Rattle.std.specs.Io.KnownBytes.{Appends}
+use Rattle.ssi_base.specs.Streams.{AppendsPart}
+use Rattle.ssi_lexer.specs.declared.token.TextEnd.{TextEnd}
+use Rattle.ssi_lexer.specs.Lexemes.{Lexeme, AreTokens}
+use Rattle.ssi_identities.specs.declared.data_set.DataSet.{DataSet}
+use Rattle.ssi_terms.specs.declared.tree.FirstTree.{FirstTree}
+use Rattle.ssi_terms.specs.Grammar.{BeginsFirst}
+use Rattle.ssi_run.specs.declared.script.ScriptStep.{ScriptStep}
+use Rattle.ssi_run.specs.declared.words.Command.{Command}
+use Rattle.ssi_run.specs.declared.words.Command.TheVariants.{Run}
+use Rattle.ssi_run.specs.declared.status.TheConstants.{DONE, FAULTY, NO_SHAPE, SOURCE_FAULT, SINK_FAULT, NO_MEMORY, PAST_LIMIT}
+use Rattle.ssi_run.specs.declared.program.TheConstants.{LIMIT, USAGE, TOO_LARGE, FAULT_LATER}
+use Rattle.ssi_run.specs.Layouts.{resolved, names_in}
+use Rattle.ssi_run.specs.Scripts.{IsScript}
+use Rattle.ssi_run.specs.Traces.{trace_of}
+use Rattle.ssi_run.specs.Words.{command_of}
+
+-- The input is a layout and the steps of a script for it: its tokens begin with twelve files, whose names
+-- resolve to the data set, and go on with the script.
+pub record IsForm (input : List ℕ) (plan : DataSet) (steps : List ScriptStep) : Type 0 where
+  pub lexemes : List Lexeme
+  pub end : TextEnd
+  pub tokens : AreTokens input 0 lexemes end
+  pub tree : FirstTree
+  pub script : List Lexeme
+  pub files : BeginsFirst tree lexemes script end
+  pub plan_is : resolved input tree ≡ Some plan
+  pub script_is : IsScript (names_in plan.requests) steps script end
+
+-- a status, and what is written
+pub record Answer : Type 0 where
+  pub status : ℕ
+  pub output : List ℕ
+
+-- what `run` answers: the trace of the script; a fault where the input is no layout with a script; and a
+-- fault where it is too large
+pub data RunAnswers (input : List ℕ) : Answer → Type 0 where
+  a_trace : (plan : DataSet) (steps : List ScriptStep) → length input ≤ LIMIT → IsForm input plan steps
+      → RunAnswers input (record { status = DONE; output = trace_of plan steps })
+  fault_later : length input ≤ LIMIT → ((plan : DataSet) (steps : List ScriptStep) → IsForm input plan steps → ⊥)
+      → RunAnswers input (record { status = FAULTY; output = FAULT_LATER.now })
+  too_large : LIMIT < length input → RunAnswers input (record { status = PAST_LIMIT; output = TOO_LARGE.now })
+
+-- what a command answers to its input; where the words have no shape, the usage line
+abbrev pub CommandAnswers : Option Command → List ℕ → Answer → Type 0
+CommandAnswers None input answer = answer ≡ record { status = NO_SHAPE; output = USAGE.now }
+CommandAnswers (Some Run) input answer = RunAnswers input answer
+
+-- what the program answers to its words and its input
+abbrev pub Answers : List (List ℕ) → List ℕ → Answer → Type 0
+Answers words input answer = CommandAnswers (command_of words) input answer
+
+-- the status is that of an answer, and tells of no failure from outside
+pub record IsAnswered (status : ℕ) : Type 0 where
+  pub read : status ≢ SOURCE_FAULT
+  pub written : status ≢ SINK_FAULT
+  pub memory : status ≢ NO_MEMORY
+
+-- all that the source has left, where it tells it
+abbrev pub IsInput : Option (List ℕ) → List ℕ → Type 0
+IsInput left input = IfSome left (λ all. input ≡ all)
+
+-- the status is the answer's, and its whole output was written
+pub record Gives (old new : Option (List ℕ)) (status : ℕ) (answer : Answer) : Type 0 where
+  pub same_status : status ≡ answer.status
+  pub appended : Appends old new answer.output
+
+-- the answer to some input that the source may have had was given
+pub record GivesAnswer (words : List (List ℕ)) (left old new : Option (List ℕ)) (status : ℕ) : Type 0 where
+  pub input : List ℕ
+  pub is_input : IsInput left input
+  pub answer : Answer
+  pub is_answer : Answers words input answer
+  pub gives : Gives old new status answer
+
+-- a part of the answer's output was written, and not the whole
+pub record GivesPart (words : List (List ℕ)) (left old new : Option (List ℕ)) : Type 0 where
+  pub input : List ℕ
+  pub is_input : IsInput left input
+  pub answer : Answer
+  pub is_answer : Answers words input answer
+  pub part : AppendsPart old new answer.output
+
+-- there is one answer to the words and the input
+abbrev pub HasOneAnswer : Type 0
+HasOneAnswer = (words : List (List ℕ)) (input : List ℕ) (a b : Answer) → Answers words input a → Answers words input b → a ≡ b

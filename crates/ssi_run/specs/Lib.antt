@@ -1,0 +1,9 @@
+pub mod Answers
+pub mod Outcomes
+pub mod Words
+pub mod Worlds
+pub mod Traces
+pub mod Layouts
+pub mod Findings
+pub mod Scripts
+pub mod ScriptReading

@@ -1,0 +1,99 @@
+//! The core of the interlocking: its state and the requests that wait.
+
+ghost use Rattle.std.specs.Prelude.{◌≡◌, ◌∷◌, ◌++◌, ◌<◌, ◌↔◌, false, length, replicate, drop, [], None, IfOk, IsErr, IsTrue};
+ghost use Rattle.ssi_run.specs.Worlds.{effect_in, is_full, minor_cycle_of, taken_of, with_request};
+ghost use Rattle.std.specs.Prelude.{slice_get};
+
+use crate::evaluation::run_body;
+use arrayvec::ArrayVec;
+use ssi_base::OutOfMemory;
+use ssi_identities::DataSet;
+use std::alloc::Global;
+use std::marker::Model;
+
+/// How many requests wait at most.
+const MOST_WAITING: usize = 64;
+
+/// As many requests wait as may.
+#[derive(Clone, Copy, Debug, PartialEq, Eq)]
+pub struct Full;
+
+/// The state of the interlocking and the requests that wait on panel 0.
+#[derive(Drop)]
+pub struct Core {
+    state: Vec<bool>,
+    waiting: ArrayVec<u16, MOST_WAITING>,
+}
+
+impl Model for Core {
+    ghost use Rattle.ssi_run.specs.Worlds.{World};
+
+    ghost Value = { World };
+
+    ghost view = { λ core. record { state = core.state.items; waiting = core.waiting.items } };
+}
+
+/// Takes the oldest of the requests that wait.
+fn take_oldest(waiting: &mut ArrayVec<u16, MOST_WAITING>) -> Option<u16>
+    ensures taken { result ≡ taken_of waiting.old.items }
+    ensures rest { waiting.new.items ≡ drop 1 waiting.old.items }
+{
+    if waiting.is_empty() {
+        return None;
+    }
+    Some(waiting.remove(0))
+}
+
+/// Runs the body of a request.
+fn run_request(plan: &DataSet, request: u16, state: &mut [bool])
+    ensures { state.new ≡ effect_in (slice_get plan.now.requests request) state.old }
+{
+    if let Some(row) = plan.requests.get(usize::from(request)) {
+        run_body(&row.body, state);
+    }
+}
+
+impl Core {
+    /// So many flags, all reset, and no request waits.
+    pub fn new(alloc: Global, flags: usize) -> Result<Core, OutOfMemory>
+        ensures { IfOk result (λ core. core ≡ record { state = replicate flags false; waiting = [] }) }
+    {
+        Ok(Core {
+            state: vec![in alloc; false; flags]?,
+            waiting: ArrayVec::new(),
+        })
+    }
+
+    /// Puts a request. Where 64 wait already it answers `Full`, and nothing changes.
+    pub fn put(&mut self, request: u16) -> Result<(), Full>
+        ensures put { self.new ≡ with_request self.old request }
+        ensures full { IsErr result ↔ IsTrue (is_full self.old) }
+    {
+        if self.waiting.is_full() {
+            return Err(Full);
+        }
+        self.waiting.push(request);
+        Ok(())
+    }
+
+    /// Makes one minor cycle: takes the oldest request that waits, runs its body, and answers it.
+    pub fn minor_cycle(&mut self, plan: &DataSet) -> Option<u16>
+        ensures cycle { self.new ≡ minor_cycle_of plan.now self.old }
+        ensures taken { result ≡ taken_of self.old.waiting }
+        ensures flags { length self.new.state ≡ length self.old.state }
+        ensures idle { result ≡ None → self.new.state ≡ self.old.state }
+    {
+        let taken = take_oldest(&mut self.waiting);
+        if let Some(request) = taken {
+            run_request(plan, request, &mut self.state);
+        }
+        taken
+    }
+
+    /// The value of each flag.
+    pub fn state(&self) -> &[bool]
+        ensures { result.now ≡ self.now.state }
+    {
+        self.state.as_slice()
+    }
+}

@@ -1,0 +1,118 @@
+//! The data set of a tree: names are declared and used names are looked up.
+
+ghost use Rattle.std.specs.Prelude.{◌≡◌, ◌≤◌, ◌∷◌, ◌++◌, [], true, false, length, map, Err, Some, None, IfOk, OnOk};
+ghost use Rattle.ssi_identities.specs.NameLists.{names_of, with_names};
+ghost use Rattle.ssi_identities.specs.declared.fact.Kind.TheVariants.{Flag, Request};
+ghost use Rattle.ssi_run.specs.Findings.{Finds};
+ghost use Rattle.ssi_run.specs.Layouts as spec;
+
+use crate::rules::{body, characters};
+use sqlite_items::Items;
+use ssi_identities::{Added, DataSet, Kind, Name, Names, RequestRow};
+use ssi_terms::{FirstTree, ReadFault};
+use std::alloc::Global;
+
+/// How many flags a layout has at most.
+const MOST_FLAGS: usize = 512;
+
+/// How many requests a layout has at most.
+const MOST_REQUESTS: usize = 1024;
+
+/// How many characters a name has at most.
+const LONGEST_NAME: usize = 16;
+
+/// The data set of a layout, and its names.
+#[derive(Drop)]
+pub struct Layout {
+    pub plan: DataSet,
+    pub names: Names,
+}
+
+/// Declares a name of a kind, of which so many are declared. `Later` says that the name was there, has
+/// too many characters, or is past the limit.
+fn declare(
+    alloc: Global,
+    names: &mut Names,
+    kind: Kind,
+    limit: usize,
+    count: usize,
+    name: &[u8],
+) -> Result<Name, ReadFault>
+    requires counted { count ≡ length (names_of names.old kind) }
+    requires small { limit ≤ 1024 }
+    ensures found { IfOk result (λ found. found ≡ name.now) }
+    ensures new { OnOk result (spec.is_new limit (names_of names.old kind) name.now ≡ true) }
+    ensures later { result ≡ Err ReadFault.Later → spec.is_new limit (names_of names.old kind) name.now ≡ false }
+    ensures added { OnOk result (names_of names.new kind ≡ names_of names.old kind ++ name.now ∷ []) }
+    ensures others { names.new ≡ with_names names.old kind (names_of names.new kind) }
+{
+    if count >= limit || name.len() > LONGEST_NAME {
+        return Err(ReadFault::Later);
+    }
+    match names.add(alloc, kind, name) {
+        Ok(Added::New(_)) => Ok(Name::new(name)),
+        Ok(Added::Old(_)) => Err(ReadFault::Later),
+        Err(_) => Err(ReadFault::Memory),
+    }
+}
+
+/// Declares the flags of a tree.
+fn flags(
+    alloc: Global,
+    text: &[u8],
+    names: &mut Names,
+    tree: &FirstTree,
+) -> Result<Items<Name>, ReadFault>
+    requires { names_of names.old Flag ≡ [] }
+    ensures found { Finds (spec.flags_of text.now tree.now) result }
+    ensures names { IfOk result (λ flags. names_of names.new Flag ≡ flags) }
+    ensures others { names.new ≡ with_names names.old Flag (names_of names.new Flag) }
+{
+    let mut flags = Items::new(alloc);
+    for spot in tree.flags.as_slice() {
+        let name = characters(text, spot);
+        let count = flags.len();
+        flags.push(declare(alloc, names, Kind::Flag, MOST_FLAGS, count, name)?)?;
+    }
+    Ok(flags)
+}
+
+/// Declares the requests of a tree and looks up the flags of their bodies.
+fn requests(
+    alloc: Global,
+    text: &[u8],
+    names: &mut Names,
+    tree: &FirstTree,
+) -> Result<Items<RequestRow>, ReadFault>
+    requires none { names_of names.old Request ≡ [] }
+    requires flags { names_of names.old Flag ≡ spec.flag_names text.now tree.now }
+    ensures found { Finds (spec.rows_of text.now tree.now) result }
+    ensures names { IfOk result (λ rows. names_of names.new Request ≡ spec.names_in rows) }
+{
+    let mut rows = Items::new(alloc);
+    for (spot, body_tree) in tree.requests.as_slice() {
+        let name = characters(text, spot);
+        let count = rows.len();
+        let name = declare(alloc, names, Kind::Request, MOST_REQUESTS, count, name)?;
+        let body = body(alloc, text, names, body_tree)?;
+        rows.push(RequestRow { name, body })?;
+    }
+    Ok(rows)
+}
+
+/// The layout of a tree. `Later` says that a name is declared twice, is past a limit, or is used and not
+/// declared.
+pub fn resolve(alloc: Global, text: &[u8], tree: &FirstTree) -> Result<Layout, ReadFault>
+    ensures found { IfOk result (λ layout. spec.resolved text.now tree.now ≡ Some layout.plan) }
+    ensures later { result ≡ Err ReadFault.Later → spec.resolved text.now tree.now ≡ None }
+    ensures names { IfOk result (λ layout. names_of layout.names Request ≡ spec.names_in layout.plan.requests) }
+{
+    let mut names = match Names::new(alloc) {
+        Ok(names) => names,
+        Err(_) => return Err(ReadFault::Memory),
+    };
+    let flags = flags(alloc, text, &mut names, tree)?;
+    let requests = requests(alloc, text, &mut names, tree)?;
+    let plan = DataSet { flags, requests };
+    Ok(Layout { plan, names })
+}

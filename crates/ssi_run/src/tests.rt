@@ -1,0 +1,245 @@
+//! The program over memory: layouts and scripts with the output that the rules give, worked by hand.
+
+use crate::program::{FAULT_LATER, TOO_LARGE, USAGE, ssi_program};
+use ssi_base::{MemSink, MemSource};
+use std::alloc::Global;
+use std::test::Fail;
+
+/// A layout without an entry.
+const EMPTY: &str =
+    "file PTS\nfile SIG\nfile TCS\nfile RTE\nfile SUB\nfile FLG\nfile TFM\nfile PRR\nfile PFM\nfile FOP\nfile OPT\nfile IPT\n";
+
+/// Two flags, and two requests of which the first is guarded by the first flag.
+const FLAGS: &str =
+    "file PTS\nfile SIG\nfile TCS\nfile RTE\nfile SUB\nfile FLG\nL1 .\nL2 .\nfile TFM\nfile PRR\nQ1 if L1 s then L2 s end .\nQ2 L1 s .\nfile PFM\nfile FOP\nfile OPT\nfile IPT\n";
+
+/// Two flags and a request with this body.
+fn layout_with(alloc: Global, body: &str) -> Result<String, Fail> {
+    Ok(format!(in alloc;
+        "file PTS file SIG file TCS file RTE file SUB file FLG L1 . L2 . file TFM file PRR Q1 {body} . file PFM file FOP file OPT file IPT "
+    )?)
+}
+
+/// The status that the words end with over this input, and what is written.
+fn answer(alloc: Global, words: &[&str], input: Vec<u8>) -> Result<(u8, Vec<u8>), Fail> {
+    let mut line = Vec::new(alloc);
+    for word in words {
+        line.push(String::from_str(alloc, word)?)?;
+    }
+    let mut source = MemSource::new(input, 65_536, Vec::new(alloc));
+    let mut sink = MemSink::new(alloc, 16_000_000, 4096, Vec::new(alloc))?;
+    let status = ssi_program(alloc, line.as_slice(), &mut source, &mut sink);
+    Ok((status, Vec::from_slice(alloc, sink.written())?))
+}
+
+/// The answer of `run` to a layout and a script.
+fn run(alloc: Global, layout: &str, script: &str) -> Result<(u8, Vec<u8>), Fail> {
+    let input = format!(in alloc; "{layout}{script}")?;
+    answer(alloc, &["run"], Vec::from_slice(alloc, input.as_bytes())?)
+}
+
+#[test]
+fn scripts_over_layouts(rt: HostRuntime) -> Result<(), Fail> {
+    let cases = [
+        // Nothing waits, so nothing changes.
+        (EMPTY, "file RUN cycle 1 .", "0 - - -\n"),
+        // A script with no step gives no line.
+        (EMPTY, "file RUN", ""),
+        // Requests set flags in turn; the first guard is false.
+        (
+            FLAGS,
+            "file RUN panel 0 Q1 . cycle 1 . panel 0 Q2 . panel 0 Q1 . cycle 2 .",
+            "0 - - 0:Q1\n1 - - 0:Q2 L1:s\n2 - - 0:Q1 L2:s\n",
+        ),
+        // Requests are taken in the order of their puts, one in each minor cycle.
+        (
+            FLAGS,
+            "file RUN panel 0 Q2 . panel 0 Q1 . cycle 3 .",
+            "0 - - 0:Q2 L1:s\n1 - - 0:Q1 L2:s\n2 - - -\n",
+        ),
+        // Separators and comments of all kinds, and marks with no space around them.
+        (
+            FLAGS,
+            "\tfile\r\nRUN/cycle 9 .\npanel 0 Q2./ caf\u{e9} ,\ncycle 1./",
+            "0 - - 0:Q2 L1:s\n",
+        ),
+    ];
+    for (layout, script, output) in cases {
+        let (status, written) = run(rt.alloc(), layout, script)?;
+        assert_eq!(rt; status, 0, "{script}");
+        assert_eq!(rt; written.as_slice(), output.as_bytes(), "{script}");
+    }
+    Ok(())
+}
+
+#[test]
+fn bodies_act_item_by_item(rt: HostRuntime) -> Result<(), Fail> {
+    let cases = [
+        // Later items see earlier effects.
+        (
+            "if L1 xs then L1 s, if L1 s then L2 s else L1 xs end end",
+            "fault later\n",
+        ),
+        (
+            "if L1 xs then L1 s end, if L1 s then L2 s else L1 xs end",
+            "0 - - 0:Q1 L1:s L2:s\n1 - - 0:Q1\n",
+        ),
+        // A guard is valued once, before its branch.
+        (
+            "if L1 xs, L2 xs then L1 s, L2 s end",
+            "0 - - 0:Q1 L1:s L2:s\n1 - - 0:Q1\n",
+        ),
+        // A false guard without `else` does nothing; with `else` it takes it.
+        ("if L1 s then L2 s end", "0 - - 0:Q1\n1 - - 0:Q1\n"),
+        (
+            "if L1 s then L1 xs else L1 s end",
+            "0 - - 0:Q1 L1:s\n1 - - 0:Q1 L1:xs\n",
+        ),
+        // A flag that changes and changes back isn't shown.
+        ("L1 s, L2 s, L1 xs", "0 - - 0:Q1 L2:s\n1 - - 0:Q1\n"),
+    ];
+    for (body, output) in cases {
+        let layout = layout_with(rt.alloc(), body)?;
+        let script = "file RUN panel 0 Q1 . panel 0 Q1 . cycle 2 .";
+        let (_, written) = run(rt.alloc(), layout.as_str(), script)?;
+        assert_eq!(rt; written.as_slice(), output.as_bytes(), "{body}");
+    }
+    Ok(())
+}
+
+#[test]
+fn other_inputs_are_told_later(rt: HostRuntime) -> Result<(), Fail> {
+    let alloc = rt.alloc();
+    let twice = layout_with(alloc, "L1 s . Q1 L2 s")?;
+    let unknown = layout_with(alloc, "L3 s")?;
+    let cases = [
+        (FLAGS, "file RUN panel 1 Q1 ."),
+        (FLAGS, "file RUN panel 0 Q3 ."),
+        (FLAGS, "file RUN panel 0 L1 ."),
+        (FLAGS, "file RUN cycle 0 ."),
+        (FLAGS, "file RUN cycle 1"),
+        (FLAGS, "file RUN cycle 1 . \u{e9}"),
+        (FLAGS, "file RUM cycle 1 ."),
+        (FLAGS, "cycle 1 ."),
+        (FLAGS, ""),
+        ("file PTS", ""),
+        (twice.as_str(), "file RUN cycle 1 ."),
+        (unknown.as_str(), "file RUN cycle 1 ."),
+    ];
+    for (layout, script) in cases {
+        let (status, written) = run(alloc, layout, script)?;
+        assert_eq!(rt; status, 1, "{layout}{script}");
+        assert_eq!(rt; written.as_slice(), FAULT_LATER, "{layout}{script}");
+    }
+    Ok(())
+}
+
+#[test]
+fn names_have_sixteen_characters_at_most(rt: HostRuntime) -> Result<(), Fail> {
+    let alloc = rt.alloc();
+    let cases = [("LAAAAAAAAAAAAAAA", 0), ("LAAAAAAAAAAAAAAAA", 1)];
+    for (name, expected) in cases {
+        let layout = format!(in alloc;
+            "file PTS file SIG file TCS file RTE file SUB file FLG {name} . file TFM file PRR file PFM file FOP file OPT file IPT file RUN"
+        )?;
+        let (status, _) = run(alloc, layout.as_str(), "")?;
+        assert_eq!(rt; status, expected, "{name}");
+    }
+    Ok(())
+}
+
+#[test]
+fn a_million_minor_cycles_at_most(rt: HostRuntime) -> Result<(), Fail> {
+    // A line has the digits of its number and seven bytes more.
+    let cases = [
+        (
+            "file RUN cycle 999999 . cycle 1 .",
+            0,
+            5_888_890 + 7_000_000,
+        ),
+        ("file RUN cycle 999999 . cycle 2 .", 1, 12),
+    ];
+    for (script, expected, bytes) in cases {
+        let (status, written) = run(rt.alloc(), EMPTY, script)?;
+        assert_eq!(rt; status, expected, "{script}");
+        assert_eq!(rt; written.len(), bytes, "{script}");
+    }
+    Ok(())
+}
+
+#[test]
+fn sixty_four_requests_wait(rt: HostRuntime) -> Result<(), Fail> {
+    let alloc = rt.alloc();
+    let mut script = String::from_str(alloc, "file RUN ")?;
+    for _put in 0..65 {
+        script.push_str("panel 0 Q2 . ")?;
+    }
+    let (status, written) = run(alloc, FLAGS, script.as_str())?;
+    assert_eq!(rt; status, 0);
+    assert_eq!(rt; written.as_slice(), b"full 0 Q2\n".as_slice());
+    Ok(())
+}
+
+/// The answer to words over an input of which each read fails.
+fn answer_unread(alloc: Global, words: &[&str]) -> Result<(u8, Vec<u8>), Fail> {
+    let mut line = Vec::new(alloc);
+    for word in words {
+        line.push(String::from_str(alloc, word)?)?;
+    }
+    let mut source = MemSource::new(Vec::new(alloc), 1, vec![in alloc; 0]?);
+    let mut sink = MemSink::new(alloc, 100, 8, Vec::new(alloc))?;
+    let status = ssi_program(alloc, line.as_slice(), &mut source, &mut sink);
+    Ok((status, Vec::from_slice(alloc, sink.written())?))
+}
+
+#[test]
+fn words_without_a_shape_read_nothing(rt: HostRuntime) -> Result<(), Fail> {
+    let alloc = rt.alloc();
+    let answers = [
+        answer_unread(alloc, &[])?,
+        answer_unread(alloc, &["walk"])?,
+        answer_unread(alloc, &["run", "1"])?,
+        answer_unread(alloc, &[""])?,
+    ];
+    for (status, written) in answers {
+        assert_eq!(rt; status, 2);
+        assert_eq!(rt; written.as_slice(), USAGE);
+    }
+    let (status, _) = answer_unread(alloc, &["run"])?;
+    assert_eq!(rt; status, 3);
+    Ok(())
+}
+
+#[test]
+fn input_past_the_limit(rt: HostRuntime) -> Result<(), Fail> {
+    let alloc = rt.alloc();
+    let cases = [(2_097_152, 1, FAULT_LATER), (2_097_153, 9, TOO_LARGE)];
+    for (bytes, expected, output) in cases {
+        let (status, written) = answer(alloc, &["run"], vec![in alloc; b' '; bytes]?)?;
+        assert_eq!(rt; status, expected, "{bytes}");
+        assert_eq!(rt; written.as_slice(), output, "{bytes}");
+    }
+    Ok(())
+}
+
+#[test]
+fn failing_source_and_sink(rt: HostRuntime) -> Result<(), Fail> {
+    let alloc = rt.alloc();
+    let input = format!(in alloc; "{FLAGS}file RUN panel 0 Q2 . cycle 1 .")?;
+    // The numbers of the calls that fail: of reads, and of writes.
+    let cases = [
+        (vec![in alloc; 1]?, Vec::new(alloc), 3, 0),
+        (Vec::new(alloc), vec![in alloc; 1]?, 4, 8),
+    ];
+    for (reads, writes, expected, most) in cases {
+        let mut line = Vec::new(alloc);
+        line.push(String::from_str(alloc, "run")?)?;
+        let mut source = MemSource::new(Vec::from_slice(alloc, input.as_bytes())?, 64, reads);
+        let mut sink = MemSink::new(alloc, 1000, 8, writes)?;
+        let status = ssi_program(alloc, line.as_slice(), &mut source, &mut sink);
+        assert_eq!(rt; status, expected);
+        assert!(rt; sink.written().len() <= most);
+        assert!(rt; b"0 - - 0:Q2 L1:s\n".starts_with(sink.written()));
+    }
+    Ok(())
+}

@@ -1,0 +1,5 @@
+pub mod Laws
+pub mod Marks
+pub mod BodyLaws
+pub mod FileLaws
+pub mod Turns

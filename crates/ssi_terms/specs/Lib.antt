@@ -1,0 +1,4 @@
+pub mod Tests
+pub mod Grammar
+pub mod Readers
+pub mod Read
