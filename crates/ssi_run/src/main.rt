@@ -6,7 +6,7 @@
 #![tactic(auto)]
 
 mod changes;
-mod core;
+mod interlocking;
 mod evaluation;
 mod layout;
 mod pieces;

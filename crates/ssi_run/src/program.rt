@@ -11,7 +11,7 @@ ghost use Rattle.ssi_run.specs.Traces.{cycles_in, trace_of};
 ghost use Rattle.ssi_run.specs.Answers.{GivesAnswer, GivesPart, HasOneAnswer, IsAnswered, IsForm};
 ghost use Rattle.ssi_run.specs.Outcomes.{GivesRun, GivesRunPart};
 
-use crate::core::Core;
+use crate::interlocking::Interlocking;
 use crate::layout::{Layout, resolve};
 use crate::script::{ScriptStep, read_script};
 use crate::status::{DONE, FAULTY, NO_MEMORY, NO_SHAPE, PAST_LIMIT, SINK_FAULT, SOURCE_FAULT};
@@ -89,7 +89,7 @@ fn run_steps<K: Sink>(alloc: Global, sink: &mut K, plan: &DataSet, steps: &[Scri
     ensures goes_on { GoesOn (K.faults sink.old) (K.faults sink.new) }
 {
     let flags = plan.flags.len();
-    let mut core = match Core::new(alloc, flags) {
+    let mut core = match Interlocking::new(alloc, flags) {
         Ok(core) => core,
         Err(_) => return NO_MEMORY,
     };

@@ -6,7 +6,7 @@ ghost use Rattle.ssi_run.specs.Worlds.{minor_cycle_of, with_request};
 ghost use Rattle.ssi_run.specs.Traces.{Session, after_cycles, after_step, cycles_in, cycles_of, line_of, lines_of, name_in, put_text, step_text, steps_text, taken_text};
 
 use crate::changes::write_changes_by;
-use crate::core::{Core, Full};
+use crate::interlocking::{Interlocking, Full};
 use crate::pieces::{write_three, write_two};
 use crate::script::ScriptStep;
 use ssi_base::{Failed, Sink, decimal, write_all};
@@ -45,7 +45,7 @@ fn write_number<K: Sink>(sink: &mut K, number: u64) -> Result<(), Failed>
 fn write_cycle<K: Sink>(
     sink: &mut K,
     plan: &DataSet,
-    core: &mut Core,
+    core: &mut Interlocking,
     shown: &mut [bool],
     number: u64,
 ) -> Result<(), Failed>
@@ -68,7 +68,7 @@ fn write_cycle<K: Sink>(
 fn write_cycles<K: Sink>(
     sink: &mut K,
     plan: &DataSet,
-    core: &mut Core,
+    core: &mut Interlocking,
     shown: &mut [bool],
     first: u64,
     count: u64,
@@ -92,7 +92,7 @@ fn write_cycles<K: Sink>(
 fn write_step<K: Sink>(
     sink: &mut K,
     plan: &DataSet,
-    core: &mut Core,
+    core: &mut Interlocking,
     shown: &mut [bool],
     number: u64,
     step: ScriptStep,
@@ -124,7 +124,7 @@ fn write_step<K: Sink>(
 fn write_put<K: Sink>(
     sink: &mut K,
     plan: &DataSet,
-    core: &mut Core,
+    core: &mut Interlocking,
     request: u16,
 ) -> Result<(), Failed>
     ensures put { core.new ≡ with_request core.old request }
@@ -141,7 +141,7 @@ fn write_put<K: Sink>(
 pub fn write_steps<K: Sink>(
     sink: &mut K,
     plan: &DataSet,
-    core: &mut Core,
+    core: &mut Interlocking,
     shown: &mut [bool],
     steps: &[ScriptStep],
 ) -> Result<(), Failed>

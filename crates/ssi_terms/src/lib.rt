@@ -1,7 +1,8 @@
 //! Trees of the source, read from its tokens.
 //!
 //! The layer above may rely on [`read_first`]: it answers the tree that the tokens spell, or that they
-//! begin with no twelve files of the form that is read so far. It stands on `ssi_lexer` for tokens.
+//! begin with no twelve files of the form that is read so far. Whoever reads other parts of a text has
+//! [`pass_word`] and its like, which take one token. It stands on `ssi_lexer` for tokens.
 #![tactic(auto)]
 
 mod bodies;

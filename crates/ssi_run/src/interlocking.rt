@@ -20,12 +20,12 @@ pub struct Full;
 
 /// The state of the interlocking and the requests that wait on panel 0.
 #[derive(Drop)]
-pub struct Core {
+pub struct Interlocking {
     state: Vec<bool>,
     waiting: ArrayVec<u16, MOST_WAITING>,
 }
 
-impl Model for Core {
+impl Model for Interlocking {
     ghost use Rattle.ssi_run.specs.Worlds.{World};
 
     ghost Value = { World };
@@ -53,12 +53,12 @@ fn run_request(plan: &DataSet, request: u16, state: &mut [bool])
     }
 }
 
-impl Core {
+impl Interlocking {
     /// So many flags, all reset, and no request waits.
-    pub fn new(alloc: Global, flags: usize) -> Result<Core, OutOfMemory>
+    pub fn new(alloc: Global, flags: usize) -> Result<Interlocking, OutOfMemory>
         ensures { IfOk result (λ core. core ≡ record { state = replicate flags false; waiting = [] }) }
     {
-        Ok(Core {
+        Ok(Interlocking {
             state: vec![in alloc; false; flags]?,
             waiting: ArrayVec::new(),
         })
