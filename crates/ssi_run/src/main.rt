@@ -6,8 +6,8 @@
 #![tactic(auto)]
 
 mod changes;
-mod interlocking;
 mod evaluation;
+mod interlocking;
 mod layout;
 mod pieces;
 mod program;

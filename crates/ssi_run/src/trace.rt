@@ -6,7 +6,7 @@ ghost use Rattle.ssi_run.specs.Worlds.{minor_cycle_of, with_request};
 ghost use Rattle.ssi_run.specs.Traces.{Session, after_cycles, after_step, cycles_in, cycles_of, line_of, lines_of, name_in, put_text, step_text, steps_text, taken_text};
 
 use crate::changes::write_changes_by;
-use crate::interlocking::{Interlocking, Full};
+use crate::interlocking::{Full, Interlocking};
 use crate::pieces::{write_three, write_two};
 use crate::script::ScriptStep;
 use ssi_base::{Failed, Sink, decimal, write_all};
