@@ -1,7 +1,8 @@
 //! Kinds of identities, and the numbers of the facts of a state.
 
-ghost use Rattle.std.specs.Prelude.{◌≡◌, ◌<◌, ◌≤◌, ◌+◌, ◌*◌};
+ghost use Rattle.std.specs.Prelude.{◌≡◌, ℕ, ◌<◌, ◌≤◌, ◌+◌, ◌*◌};
 ghost use Rattle.ssi_identities.specs.declared.fact.Counts.{Counts};
+ghost use Rattle.ssi_identities.specs.declared.fact.FactKind.{FactKind};
 ghost use Rattle.ssi_identities.specs.Facts.{IsWithinLimits, count_of, fact_count_of, fact_number_of, first_of_routes};
 
 /// A kind of identity. The first letter of an identity's name tells its kind.
@@ -157,3 +158,11 @@ fn route_fact(place: u16) -> (FactKind, u16)
         (FactKind::RouteBarred, index)
     }
 }
+
+/// Each number is that of one fact.
+pub fn one_fact()
+    ensures { (counts : Counts) (kind other : FactKind) (index place : ℕ)
+        → index < count_of counts kind → place < count_of counts other
+        → fact_number_of counts kind index ≡ fact_number_of counts other place
+        → (kind ≡ other) × (index ≡ place) }
+{}

@@ -13,7 +13,7 @@ mod names;
 mod rule;
 
 pub use data_set::{DataSet, RequestRow};
-pub use fact::{Counts, FactKind, Kind, fact_count, fact_number, fact_of};
+pub use fact::{Counts, FactKind, Kind, fact_count, fact_number, fact_of, one_fact};
 pub use meaning::{laws_of_bodies, worked_bodies, worked_conditions};
 pub use name::Name;
 pub use names::{Added, Names};

@@ -12,11 +12,13 @@ pub struct Name {
 }
 
 impl Model for Name {
-    ghost use Rattle.std.specs.Prelude.{ℕ, List};
+    ghost use Rattle.std.specs.Prelude.{ℕ, ◌≤◌, List, length};
 
     ghost Value = { List ℕ };
 
     ghost view = { λ name. name.text.items };
+
+    ghost invariant = { λ name. length name.text.items ≤ 16 };
 }
 
 impl Name {
@@ -34,7 +36,8 @@ impl Name {
 
     /// Its bytes.
     pub fn bytes(&self) -> &[u8]
-        ensures { result.now ≡ self.now }
+        ensures bytes { result.now ≡ self.now }
+        ensures short { length result.now ≤ 16 }
     {
         self.text.as_slice()
     }
