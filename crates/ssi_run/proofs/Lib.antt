@@ -3,6 +3,7 @@ pub mod Answering
 pub mod Declared
 pub mod OneAnswer
 pub mod Rest
+pub mod Short
 pub mod Shown
 pub mod StepLaws
 pub mod Turns

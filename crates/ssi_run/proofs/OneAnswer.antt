@@ -25,30 +25,26 @@ same_script requests a b tokens end s t =
     same_steps requests a b t.rest (subst (λ (ts : List Lexeme). SpellsSteps requests a ts) rest_is s.steps_are.spells) t.steps_are.spells
 
 module _ (input : List ℕ) (p q : DataSet) (a b : List ScriptStep) (s : IsForm input p a) (t : IsForm input q b) where
-  lexemes_are : s.lexemes ≡ t.lexemes
-  lexemes_are = (same_tokens input 0 s.lexemes t.lexemes s.end t.end s.tokens t.tokens).0
+  tokens_are : (s.files.lexemes ≡ t.files.lexemes) × (s.files.end ≡ t.files.end)
+  tokens_are = same_tokens input 0 s.files.lexemes t.files.lexemes s.files.end t.files.end s.files.tokens t.files.tokens
 
-  end_is : s.end ≡ t.end
-  end_is = (same_tokens input 0 s.lexemes t.lexemes s.end t.end s.tokens t.tokens).1
+  files : BeginsFirst s.tree t.files.lexemes s.files.script t.files.end
+  files =
+      subst (λ (e : TextEnd). BeginsFirst s.tree t.files.lexemes s.files.script e) tokens_are.1
+      (subst (λ (ls : List Lexeme). BeginsFirst s.tree ls s.files.script s.files.end) tokens_are.0 s.files.files)
 
-  files : BeginsFirst s.tree t.lexemes s.script t.end
-  files = subst (λ (e : TextEnd). BeginsFirst s.tree t.lexemes s.script e) end_is (subst (λ (ls : List Lexeme). BeginsFirst s.tree ls s.script s.end) lexemes_are s.files)
-
-  tree_is : s.tree ≡ t.tree
-  tree_is = (one_first s.tree t.tree t.lexemes s.script t.script t.end files t.files).0
-
-  script_is : s.script ≡ t.script
-  script_is = (one_first s.tree t.tree t.lexemes s.script t.script t.end files t.files).1
+  files_are : (s.tree ≡ t.tree) × (s.files.script ≡ t.files.script)
+  files_are = one_first s.tree t.tree t.files.lexemes s.files.script t.files.script t.files.end files t.files.files
 
   plan_is : p ≡ q
-  plan_is = let same : Some p ≡ Some q = sym s.plan_is ∙ ap (resolved input) tree_is ∙ t.plan_is in cc
+  plan_is = let same : Some p ≡ Some q = sym s.plan_is ∙ ap (resolved input) files_are.0 ∙ t.plan_is in cc
 
   steps_are : a ≡ b
   steps_are =
-      let at_end = subst (λ (e : TextEnd). IsScript (names_in p.requests) a s.script e) end_is s.script_is in
-      let at_script = subst (λ (ts : List Lexeme). IsScript (names_in p.requests) a ts t.end) script_is at_end in
-      let of_plan = subst (λ (d : DataSet). IsScript (names_in d.requests) a t.script t.end) plan_is at_script in
-      same_script (names_in q.requests) a b t.script t.end of_plan t.script_is
+      let at_end = subst (λ (e : TextEnd). IsScript (names_in p.requests) a s.files.script e) tokens_are.1 s.script_is in
+      let at_script = subst (λ (ts : List Lexeme). IsScript (names_in p.requests) a ts t.files.end) files_are.1 at_end in
+      let of_plan = subst (λ (d : DataSet). IsScript (names_in d.requests) a t.files.script t.files.end) plan_is at_script in
+      same_script (names_in q.requests) a b t.files.script t.files.end of_plan t.script_is
 
   pub same_trace : trace_of p a ≡ trace_of q b
   same_trace = rw (plan_is, steps_are) refl

@@ -217,7 +217,7 @@ module _ (requests : List (List ℕ)) where
   pub all_read : (tokens : List Lexeme) (steps : List ScriptStep) (left : List Lexeme) → ReadsOn tokens steps left → is_some (first_of left) ≡ false → SpellsSteps requests steps tokens
   all_read tokens steps [] r none =
       let h : SpellsSteps requests (steps ++ []) (r.used ++ []) = r.spells [] [] no_step in
-      rw r.parts (rw append-nil at h)
+      rw r.parts (rw (append-nil steps) at h)
   all_read tokens steps (t ∷ left) r none = absurd cc
 
   -- one list of steps for the tokens

@@ -3,32 +3,26 @@ use Rattle.std.specs.Prelude.{◌≡◌, ◌≢◌, ℕ, ◌<◌, ◌≤◌, Lis
 use Rattle.std.specs.Option.{IfSome}
 use Rattle.std.specs.Io.KnownBytes.{Appends}
 use Rattle.ssi_base.specs.Streams.{AppendsPart}
-use Rattle.ssi_lexer.specs.declared.token.TextEnd.{TextEnd}
-use Rattle.ssi_lexer.specs.Lexemes.{Lexeme, AreTokens}
 use Rattle.ssi_identities.specs.declared.data_set.DataSet.{DataSet}
 use Rattle.ssi_terms.specs.declared.tree.FirstTree.{FirstTree}
-use Rattle.ssi_terms.specs.Grammar.{BeginsFirst}
 use Rattle.ssi_run.specs.declared.script.ScriptStep.{ScriptStep}
 use Rattle.ssi_run.specs.declared.words.Command.{Command}
 use Rattle.ssi_run.specs.declared.words.Command.TheVariants.{Run}
 use Rattle.ssi_run.specs.declared.status.TheConstants.{DONE, FAULTY, NO_SHAPE, SOURCE_FAULT, SINK_FAULT, NO_MEMORY, PAST_LIMIT}
 use Rattle.ssi_run.specs.declared.program.TheConstants.{LIMIT, USAGE, TOO_LARGE, FAULT_LATER}
+use Rattle.ssi_run.specs.Inputs.{BeginsInput}
 use Rattle.ssi_run.specs.Layouts.{resolved, names_in}
 use Rattle.ssi_run.specs.Scripts.{IsScript}
 use Rattle.ssi_run.specs.Traces.{trace_of}
 use Rattle.ssi_run.specs.Words.{command_of}
 
--- The input is a layout and the steps of a script for it: its tokens begin with twelve files, whose names
--- resolve to the data set, and go on with the script.
+-- The input is a layout and the steps of a script for it: it begins with twelve files, whose names resolve
+-- to the data set, and goes on with the script.
 pub record IsForm (input : List ℕ) (plan : DataSet) (steps : List ScriptStep) : Type 0 where
-  pub lexemes : List Lexeme
-  pub end : TextEnd
-  pub tokens : AreTokens input 0 lexemes end
   pub tree : FirstTree
-  pub script : List Lexeme
-  pub files : BeginsFirst tree lexemes script end
+  pub files : BeginsInput input tree
   pub plan_is : resolved input tree ≡ Some plan
-  pub script_is : IsScript (names_in plan.requests) steps script end
+  pub script_is : IsScript (names_in plan.requests) steps files.script files.end
 
 -- a status, and what is written
 pub record Answer : Type 0 where

@@ -1,5 +1,5 @@
 -- The data set of a tree: its names are declared once, and every name used is declared.
-use Rattle.std.specs.Prelude.{ℕ, Bool, true, not, ◌&&◌, nat_lt, nat_le, if◌then◌else◌, List, [], ◌∷◌, ◌++◌, length, map, take, drop, codes, Option, Some, None, option_map, is_some}
+use Rattle.std.specs.Prelude.{ℕ, Bool, true, not, ◌&&◌, nat_lt, if◌then◌else◌, List, [], ◌∷◌, ◌++◌, length, map, take, drop, codes, Option, Some, None, option_map, is_some}
 use Rattle.std.specs.Str.{bytes_eq}
 use Rattle.ssi_identities.specs.declared.rule.CondItem.{CondItem}
 use Rattle.ssi_identities.specs.declared.rule.CondItem.TheVariants.{Lit}
@@ -25,9 +25,9 @@ use Rattle.ssi_terms.specs.declared.tree.FirstTree.{FirstTree}
 abbrev pub characters : List ℕ → Spot → List ℕ
 characters text spot = take spot.len (drop spot.start text)
 
--- whether a name can be declared after these: it is new, within the limit, and has 16 characters at most
+-- whether a name can be declared after these: it is new, and within the limit
 abbrev pub is_new : ℕ → List (List ℕ) → List ℕ → Bool
-is_new limit earlier name = not (is_some (number_of earlier name)) && nat_lt (length earlier) limit && nat_le (length name) 16
+is_new limit earlier name = not (is_some (number_of earlier name)) && nat_lt (length earlier) limit
 
 -- whether the names can be declared, one after another
 abbrev pub are_new : ℕ → List (List ℕ) → List (List ℕ) → Bool

@@ -3,6 +3,7 @@ pub mod Outcomes
 pub mod Words
 pub mod Worlds
 pub mod Traces
+pub mod Inputs
 pub mod Layouts
 pub mod Findings
 pub mod Scripts

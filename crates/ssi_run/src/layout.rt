@@ -1,9 +1,10 @@
 //! The data set of a tree: names are declared and used names are looked up.
 
-ghost use Rattle.std.specs.Prelude.{◌≡◌, ◌≤◌, ◌∷◌, ◌++◌, [], true, false, length, map, Err, Some, None, IfOk, OnOk};
+ghost use Rattle.std.specs.Prelude.{◌≡◌, ◌≤◌, ◌∷◌, ◌++◌, [], true, false, length, map, All, Err, Some, None, IfOk, OnOk};
 ghost use Rattle.ssi_identities.specs.NameLists.{names_of, with_names};
 ghost use Rattle.ssi_identities.specs.declared.fact.Kind.TheVariants.{Flag, Request};
 ghost use Rattle.ssi_run.specs.Findings.{Finds};
+ghost use Rattle.ssi_run.specs.Inputs.{BeginsInput};
 ghost use Rattle.ssi_run.specs.Layouts as spec;
 
 use crate::rules::{body, characters};
@@ -18,9 +19,6 @@ const MOST_FLAGS: usize = 512;
 /// How many requests a layout has at most.
 const MOST_REQUESTS: usize = 1024;
 
-/// How many characters a name has at most.
-const LONGEST_NAME: usize = 16;
-
 /// The data set of a layout, and its names.
 #[derive(Drop)]
 pub struct Layout {
@@ -28,8 +26,8 @@ pub struct Layout {
     pub names: Names,
 }
 
-/// Declares a name of a kind, of which so many are declared. `Later` says that the name was there, has
-/// too many characters, or is past the limit.
+/// Declares a name of a kind, of which so many are declared. `Later` says that the name was there, or is
+/// past the limit.
 fn declare(
     alloc: Global,
     names: &mut Names,
@@ -40,13 +38,14 @@ fn declare(
 ) -> Result<Name, ReadFault>
     requires counted { count ≡ length (names_of names.old kind) }
     requires small { limit ≤ 1024 }
+    requires short { length name.now ≤ 16 }
     ensures found { IfOk result (λ found. found ≡ name.now) }
     ensures new { OnOk result (spec.is_new limit (names_of names.old kind) name.now ≡ true) }
     ensures later { result ≡ Err ReadFault.Later → spec.is_new limit (names_of names.old kind) name.now ≡ false }
     ensures added { OnOk result (names_of names.new kind ≡ names_of names.old kind ++ name.now ∷ []) }
     ensures others { names.new ≡ with_names names.old kind (names_of names.new kind) }
 {
-    if count >= limit || name.len() > LONGEST_NAME {
+    if count >= limit {
         return Err(ReadFault::Later);
     }
     match names.add(alloc, kind, name) {
@@ -63,7 +62,8 @@ fn flags(
     names: &mut Names,
     tree: &FirstTree,
 ) -> Result<Items<Name>, ReadFault>
-    requires { names_of names.old Flag ≡ [] }
+    requires none { names_of names.old Flag ≡ [] }
+    requires short { All (λ spot. spot.len ≤ 16) tree.now.flags }
     ensures found { Finds (spec.flags_of text.now tree.now) result }
     ensures names { IfOk result (λ flags. names_of names.new Flag ≡ flags) }
     ensures others { names.new ≡ with_names names.old Flag (names_of names.new Flag) }
@@ -86,6 +86,7 @@ fn requests(
 ) -> Result<Items<RequestRow>, ReadFault>
     requires none { names_of names.old Request ≡ [] }
     requires flags { names_of names.old Flag ≡ spec.flag_names text.now tree.now }
+    requires short { All (λ request. request.0.len ≤ 16) tree.now.requests }
     ensures found { Finds (spec.rows_of text.now tree.now) result }
     ensures names { IfOk result (λ rows. names_of names.new Request ≡ spec.names_in rows) }
 {
@@ -100,9 +101,10 @@ fn requests(
     Ok(rows)
 }
 
-/// The layout of a tree. `Later` says that a name is declared twice, is past a limit, or is used and not
+/// The layout of the tree with which a text begins. `Later` says that a name is declared twice, is past a limit, or is used and not
 /// declared.
 pub fn resolve(alloc: Global, text: &[u8], tree: &FirstTree) -> Result<Layout, ReadFault>
+    requires { BeginsInput text.now tree.now }
     ensures found { IfOk result (λ layout. spec.resolved text.now tree.now ≡ Some layout.plan) }
     ensures later { result ≡ Err ReadFault.Later → spec.resolved text.now tree.now ≡ None }
     ensures names { IfOk result (λ layout. names_of layout.names Request ≡ spec.names_in layout.plan.requests) }

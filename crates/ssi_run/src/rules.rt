@@ -1,6 +1,6 @@
 //! Conditions and bodies of a tree, with numbers for names.
 
-ghost use Rattle.std.specs.Prelude.{◌≡◌, option_map};
+ghost use Rattle.std.specs.Prelude.{◌≡◌, ◌≤◌, length, option_map};
 ghost use Rattle.ssi_identities.specs.NameLists.{names_of};
 ghost use Rattle.ssi_identities.specs.declared.fact.Kind.TheVariants.{Flag};
 ghost use Rattle.ssi_run.specs.Findings.{Finds};
@@ -13,7 +13,8 @@ use std::alloc::Global;
 
 /// The characters of a name or a word of the text.
 pub fn characters<'a>(text: &'a [u8], spot: &Spot) -> &'a [u8]
-    ensures { result.now ≡ spec.characters text.now spot.now }
+    ensures value { result.now ≡ spec.characters text.now spot.now }
+    ensures short { length result.now ≤ spot.now.len }
 {
     let start = (spot.start as usize).min(text.len());
     let rest = &text[start..];

@@ -3,13 +3,12 @@
 use std::alloc::AllocError;
 use thiserror::Error;
 
-/// Why no tree was read.
+/// Why no tree was read: `Later` where the tokens begin with nothing that is read so far, `Memory` where
+/// memory ran out.
 #[derive(Debug, Drop, Error)]
 pub enum ReadFault {
-    /// The tokens begin with nothing that is read so far.
     #[error("the text has a form that is not read yet")]
     Later,
-    /// Memory ran out.
     #[error("out of memory")]
     Memory,
 }

@@ -26,7 +26,7 @@ loop-spot-preserved c =
     record {
       names = names;
       flags = flags;
-      left = sym (left_next 1024 _ _ name _ _ (rw (here, c.characters-name.ensures) refl) new added) ∙ c.loop-spot.invariant.left;
+      left = sym (left_next 1024 _ _ name _ _ (rw (here, c.characters-name.ensures.value) refl) new added) ∙ c.loop-spot.invariant.left;
       rows = sym (rows_next c.loop-spot.rows c.push.new.self _ (map row (drop c.loop-spot.spot-index items)) (map row (drop (c.loop-spot.spot-index + 1) items))
-          (rw (here, body, c.in_ok-name.ensures.found, c.characters-name.ensures) refl) pushed) ∙ c.loop-spot.invariant.rows;
+          (rw (here, body, c.in_ok-name.ensures.found, c.characters-name.ensures.value) refl) pushed) ∙ c.loop-spot.invariant.rows;
     }
