@@ -1,5 +1,5 @@
 // A sink in memory.
-ghost use Rattle.std.specs.Prelude.{◌≡◌, ◌-◌, ◌<◌, ◌↔◌, [], length, min, take, Some, IsTrue, IsErr, IfOk, OnErr};
+ghost use Rattle.std.specs.Prelude.{◌≡◌, ◌-◌, ◌<◌, ◌≤◌, ◌↔◌, [], length, min, take, Some, IsTrue, IsErr, IfOk, OnErr};
 ghost use Rattle.std.specs.Io.{WritesAtMost};
 ghost use Rattle.std.specs.Io.KnownBytes.{WriteAppends};
 ghost use Rattle.ssi_base.specs.InMemory.{refuses, after_write, after_failed_write};
@@ -71,9 +71,10 @@ impl MemSink {
         })
     }
 
-    /// The bytes that were written.
+    /// The bytes that were written, never more than the capacity.
     pub fn written(&self) -> &[u8]
-        ensures { result.now ≡ self.now.written }
+        ensures bytes { result.now ≡ self.now.written }
+        ensures within { length result.now ≤ self.now.capacity }
     {
         &self.bytes
     }

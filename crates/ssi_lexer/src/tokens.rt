@@ -38,6 +38,8 @@ impl<'a> Tokens<'a> {
         ensures text { result.text ≡ text.now }
         ensures position { result.position ≡ start }
         ensures tokens { AreTokens text.now start result.left result.end }
+
+        // The text has no others from there on.
         ensures only { (lexemes : List Lexeme) (end : End) → AreTokens text.now start lexemes end
             → (lexemes ≡ result.left) × (end ≡ result.end) }
     {
