@@ -97,6 +97,15 @@ def entries():
     return whole + " " * (2_000_000 - len(whole))
 
 
+def commands():
+    """2,000,000 bytes: one flag, and 1,024 requests of nothing but commands of three characters."""
+    requests = names("Q", REQUESTS)
+    room = 2_000_000 - len(text(["LA"], [(name, "") for name in requests], "cycle 1 .\n"))
+    body = ",".join(["LAs"] * (room // REQUESTS // 4))
+    whole = text(["LA"], [(name, body) for name in requests], "cycle 1 .\n")
+    return whole + " " * (2_000_000 - len(whole))
+
+
 def measured(program, source, output):
     """The middle time of some runs in seconds, and the most memory of them in bytes."""
     times, most = [], 0
@@ -152,6 +161,9 @@ def main():
         made = entries()
         figures = timed(program, room, "entries", made, (0, 1))
         report(f"a text of {len(made):,} bytes", len(made), "bytes", *figures)
+        made = commands()
+        figures = timed(program, room, "commands", made, (0, 1))
+        report(f"a text of {len(made):,} bytes, in commands of three", len(made), "bytes", *figures)
 
 
 main()

@@ -1,6 +1,7 @@
 pub mod Accepting
 pub mod Answering
 pub mod Declared
+pub mod Numbers
 pub mod OneAnswer
 pub mod Rest
 pub mod Short

@@ -32,7 +32,7 @@ earlier : {X : Type 0} (P : X → Type 0) (xs ys : List X) → All P (xs ++ ys) 
 earlier P [] ys all = All-nil P
 earlier P (x ∷ xs) ys all = All-cons P x xs (All-head P x (xs ++ ys) all) (earlier P xs ys (All-tail P x (xs ++ ys) all))
 
--- a name's place has 16 characters at most
+-- the characters of a name are 16 at most
 abbrev IsShortName : Spot → Type 0
 IsShortName spot = spot.len ≤ 16
 

@@ -17,8 +17,10 @@ use Rattle.ssi_terms.specs.declared.read_fault.ReadFault.{ReadFault}
 use Rattle.ssi_terms.specs.declared.read_fault.ReadFault.TheVariants.{Later, Memory}
 use Rattle.ssi_terms.specs.Read.{Reads}
 use Rattle.ssi_run.specs.Findings.{FindsWhat}
-use Rattle.ssi_run.specs.Scripts.{IsFinished, AreSteps, IsScript, panel_at, count_at, request_at, SpellsStep, a_put, some_cycles, SpellsSteps, no_step, a_step}
+use Rattle.ssi_run.specs.Scripts.{IsFinished, AreSteps, IsScript, request_at, SpellsStep, a_put, some_cycles, SpellsSteps, no_step, a_step}
+use Rattle.ssi_run.specs.ScriptReading.{panel_at, count_at}
 use Rattle.ssi_run.specs.ScriptReading as spec
+use Rattle.ssi_run.proofs.Numbers.{panel_is, is_panel, count_is, is_count}
 
 -- ---- a token that has a value
 
@@ -116,10 +118,10 @@ cycles-append (x ∷ a) b = ap (λ n. cycles_of x + n) (cycles-append a b) ∙ s
 
 module _ (requests : List (List ℕ)) where
   put_step : (w : Lexeme) → Is (word (codes "panel")) w → (y : ScriptStep) (u : List Lexeme) → PutRest requests y u → SpellsStep requests y (w ∷ u)
-  put_step w is y u (put_rest p q d c r e f h) = a_put w p q d c r is e f h
+  put_step w is y u (put_rest p q d c r e f h) = let k = panel_is p c e in a_put w p q d c r is k.0 k.1 f h
 
   cycles_step : (w : Lexeme) → Is (word (codes "cycle")) w → (y : ScriptStep) (u : List Lexeme) → CyclesRest y u → SpellsStep requests y (w ∷ u)
-  cycles_step w is y u (cycles_rest n d c e h) = some_cycles w n d c is e h
+  cycles_step w is y u (cycles_rest n d c e h) = let k = count_is n c e in some_cycles w n d c is k.0 k.1 h
 
   behind : (S : ScriptStep → List Lexeme → Type 0) (w : Lexeme) → ((y : ScriptStep) (u : List Lexeme) → S y u → SpellsStep requests y (w ∷ u))
       → (ts : List Lexeme) (o : Outcome ScriptStep) → Explains ScriptStep S ts o → Explains ScriptStep (SpellsStep requests) (w ∷ ts) o
@@ -139,10 +141,10 @@ module _ (requests : List (List ℕ)) where
 
   step_complete : (x : ScriptStep) (used rest : List Lexeme) → SpellsStep requests x used → spec.step requests (used ++ rest) ≡ Some (x, rest)
   unfolding spec.step
-  step_complete x used rest (a_put w p q d c r is e f h) =
-      rw is ((good_put requests).complete (Panel c r) (p ∷ q ∷ d ∷ []) rest (put_rest p q d c r e f h) tt)
-  step_complete x used rest (some_cycles w n d c is e h) =
-      rw (cycle_not_panel w is, is) (good_cycles.complete (Cycle c) (n ∷ d ∷ []) rest (cycles_rest n d c e h) tt)
+  step_complete x used rest (a_put w p q d c r is z e f h) =
+      rw is ((good_put requests).complete (Panel c r) (p ∷ q ∷ d ∷ []) rest (put_rest p q d c r (is_panel p c z e) f h) tt)
+  step_complete x used rest (some_cycles w n d c is z e h) =
+      rw (cycle_not_panel w is, is) (good_cycles.complete (Cycle c) (n ∷ d ∷ []) rest (cycles_rest n d c (is_count n c z e) h) tt)
 
   pub good_step : Good ScriptStep (spec.step requests) (SpellsStep requests) Always
   good_step = record { explains = step_explains; complete = λ x used rest s k. step_complete x used rest s }
@@ -184,8 +186,8 @@ module _ (requests : List (List ℕ)) where
       }
 
   nonempty : (x : ScriptStep) (u : List Lexeme) → SpellsStep requests x u → 0 < length u
-  nonempty x u (a_put w p q d c r is e f h) = omega arith
-  nonempty x u (some_cycles w n d c is e h) = omega arith
+  nonempty x u (a_put w p q d c r is z e f h) = omega arith
+  nonempty x u (some_cycles w n d c is z e h) = omega arith
 
   none_is : (b : List ScriptStep) (tokens : List Lexeme) → SpellsSteps requests b tokens → tokens ≡ [] → b ≡ []
   none_is b tokens no_step e = refl

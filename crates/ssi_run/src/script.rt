@@ -6,8 +6,8 @@ ghost use Rattle.ssi_identities.specs.declared.fact.Kind.TheVariants.{Request};
 ghost use Rattle.ssi_terms.specs.Readers.{GoesOn};
 ghost use Rattle.ssi_terms.specs.Read.{Reads};
 ghost use Rattle.ssi_run.specs.Findings.{FindsWhat};
-ghost use Rattle.ssi_run.specs.Scripts.{AreSteps, IsScript, count_at as count_of_token, number_at, panel_at as panel_of_token, request_at as request_of_token, value_of_digits};
-ghost use Rattle.ssi_run.specs.ScriptReading.{at_first, valued, put as reads_put, cycles as reads_cycles, step as reads_step};
+ghost use Rattle.ssi_run.specs.Scripts.{AreSteps, IsScript, request_at as request_of_token};
+ghost use Rattle.ssi_run.specs.ScriptReading.{at_first, count_at as count_of_token, number_at, panel_at as panel_of_token, value_of_digits, valued, put as reads_put, cycles as reads_cycles, step as reads_step};
 ghost use Rattle.ssi_run.specs.Traces.{cycles_of as count_of_step};
 ghost use Rattle.ssi_run.specs.declared.script.ScriptStep.{ScriptStep as Step};
 

@@ -117,6 +117,8 @@ fn other_inputs_are_told_later(rt: HostRuntime) -> Result<(), Fail> {
         (FLAGS, "file RUN panel 0 Q3 ."),
         (FLAGS, "file RUN panel 0 L1 ."),
         (FLAGS, "file RUN cycle 0 ."),
+        (FLAGS, "file RUN cycle 01 ."),
+        (FLAGS, "file RUN cycle 12345678 ."),
         (FLAGS, "file RUN cycle 1"),
         (FLAGS, "file RUN cycle 1 . \u{e9}"),
         (FLAGS, "file RUM cycle 1 ."),

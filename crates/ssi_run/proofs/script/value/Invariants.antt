@@ -1,6 +1,6 @@
 use Rattle.std.proofs.Common.{◌≡◌, ◌+◌, ◌-◌, ◌*◌, ◌^◌, ◌≤◌, drop}
 use Rattle.std.specs.Prelude.{fold}
-use Rattle.ssi_run.specs.Scripts.{value_of_digits}
+use Rattle.ssi_run.specs.ScriptReading.{value_of_digits}
 use Rattle.ssi_run.proofs.script.value.Given as goal
 
 abbrev pub invariant-loop-digit : goal.invariant-loop-digit
