@@ -1,5 +1,6 @@
 -- How often the outside has failed, and what a call owes where it says so.
 use Rattle.std.specs.Prelude.{ℕ, ◌+◌, ◌-◌, ◌^◌, ◌≡◌, ◌≤◌, min, Result, OnErr}
+use Rattle.std.proofs.Common.{lit≤}
 use Rattle.std.proofs.Math.Nat.{min-le_right}
 
 -- How often a source or a sink has failed, and how high this count may ever come.
@@ -7,11 +8,20 @@ pub record Faults : Type 0 where
   pub count : ℕ
   pub most : ℕ
 
--- One more, in a count that stays at the last number of 64 bits once it is there.
-abbrev pub one_more : ℕ → ℕ
-one_more n = min (n + 1) (2 ^ 64 - 1)
+-- The last number of a count: the greatest of 64 bits.
+abbrev pub last_count : ℕ
+last_count = 2 ^ 64 - 1
 
--- The count rose since, or it stands at the last number of 64 bits.
+-- One more, in a count that stays at the last number once it is there.
+abbrev pub one_more : ℕ → ℕ
+one_more n = min (n + 1) last_count
+
+-- The count is within its most, and the most is no more than the last number.
+pub record IsBounded (faults : Faults) : Type 0 where
+  pub count : faults.count ≤ faults.most
+  pub most : faults.most ≤ last_count
+
+-- The count rose since, or it stands at the last number.
 abbrev pub Rose : Faults → Faults → Type 0
 Rose before now = one_more before.count ≤ now.count
 
@@ -31,11 +41,12 @@ counted failures most = record { count = min failures most; most = most }
 
 -- The failures of what may fail at any call.
 abbrev pub unbounded : ℕ → Faults
-unbounded failures = counted failures (2 ^ 64 - 1)
+unbounded failures = counted failures last_count
 
--- They are never more than the most.
-pub counted_within : (failures most : ℕ) → (counted failures most).count ≤ (counted failures most).most
-counted_within failures most = min-le_right failures most
+-- Failures that are counted up to a most are bounded where this most is.
+pub counted_bounded : (failures most : ℕ) → most ≤ last_count → IsBounded (counted failures most)
+counted_bounded failures most within = record { count = min-le_right failures most; most = within }
 
-pub unbounded_within : (failures : ℕ) → (unbounded failures).count ≤ (unbounded failures).most
-unbounded_within failures = counted_within failures (2 ^ 64 - 1)
+-- The failures of what may fail at any call are bounded.
+pub unbounded_bounded : (failures : ℕ) → IsBounded (unbounded failures)
+unbounded_bounded failures = counted_bounded failures last_count (lit≤ tt)

@@ -1,7 +1,8 @@
 -- A source and a sink in memory, whose calls are numbered from 0 and fail where their numbers are listed.
-use Rattle.std.specs.Prelude.{◌≤◌, ℕ, ◌-◌, ◌^◌, ◌==◌, ◌||◌, ◌&&◌, nat_lt, nat_le, Bool, List, [], ◌∷◌, ◌++◌, length, drop}
+use Rattle.std.specs.Prelude.{◌≤◌, ℕ, ◌==◌, ◌||◌, ◌&&◌, nat_lt, nat_le, Bool, List, [], ◌∷◌, ◌++◌, length, drop}
 use Rattle.std.specs.List.{list_any}
-use Rattle.ssi_base.specs.Faults.{Faults, counted, unbounded, one_more, counted_within, unbounded_within}
+use Rattle.std.proofs.Common.{lit≤}
+use Rattle.ssi_base.specs.Faults.{Faults, IsBounded, last_count, counted, unbounded, one_more, counted_bounded, unbounded_bounded}
 
 -- A source: the bytes left, the most that a call gives, the number of the next call, the calls that fail, and how many have failed.
 pub record MemoryInput : Type 0 where
@@ -27,7 +28,7 @@ is_listed fails call = list_any (λ number. number == call) fails
 -- How many failures a source may come to: none where no call is listed.
 abbrev pub most_failures : List ℕ → ℕ
 most_failures [] = 0
-most_failures (call ∷ calls) = 2 ^ 64 - 1
+most_failures (call ∷ calls) = last_count
 
 -- The failures of a source in memory.
 abbrev pub input_faults : MemoryInput → Faults
@@ -57,10 +58,15 @@ after_write output bytes = record output { written = output.written ++ bytes; ca
 abbrev pub after_failed_write : MemoryOutput → MemoryOutput
 after_failed_write output = record output { call = one_more output.call; failed = one_more output.failed }
 
--- The failures of a source are never more than the most.
-pub input_within : (input : MemoryInput) → (input_faults input).count ≤ (input_faults input).most
-input_within input = counted_within input.failed (most_failures input.fails)
+-- How many failures a source may come to is no more than the last number of a count.
+pub most_failures-le : (fails : List ℕ) → most_failures fails ≤ last_count
+most_failures-le [] = lit≤ tt
+most_failures-le (call ∷ calls) = lit≤ tt
 
--- The failures of a sink are never more than the most.
-pub output_within : (output : MemoryOutput) → (output_faults output).count ≤ (output_faults output).most
-output_within output = unbounded_within output.failed
+-- The failures of a source are bounded.
+pub input_bounded : (input : MemoryInput) → IsBounded (input_faults input)
+input_bounded input = counted_bounded input.failed (most_failures input.fails) (most_failures-le input.fails)
+
+-- The failures of a sink are bounded.
+pub output_bounded : (output : MemoryOutput) → IsBounded (output_faults output)
+output_bounded output = unbounded_bounded output.failed

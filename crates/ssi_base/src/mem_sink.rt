@@ -82,13 +82,13 @@ impl MemSink {
 
 impl Sink for MemSink {
     ghost use Rattle.std.specs.Prelude.{Some};
-    ghost use Rattle.ssi_base.specs.InMemory.{output_faults, output_within};
+    ghost use Rattle.ssi_base.specs.InMemory.{output_faults, output_bounded};
 
     ghost written = { λ s. Some s.written };
 
     ghost faults = { output_faults };
 
-    ghost within = { output_within };
+    ghost bounded = { output_bounded };
 
     fn write(&mut self, piece: &[u8]) -> Result<usize, Failed>
         ensures bound { WritesAtMost result piece.now }

@@ -60,13 +60,13 @@ impl MemSource {
 
 impl Source for MemSource {
     ghost use Rattle.std.specs.Prelude.{Some};
-    ghost use Rattle.ssi_base.specs.InMemory.{input_faults, input_within};
+    ghost use Rattle.ssi_base.specs.InMemory.{input_faults, input_bounded};
 
     ghost left = { λ s. Some s.left };
 
     ghost faults = { input_faults };
 
-    ghost within = { input_within };
+    ghost bounded = { input_bounded };
 
     fn read(&mut self, buf: &mut [u8]) -> Result<usize, Failed>
         ensures fails { IsErr result ↔ IsTrue (is_listed self.old.fails self.old.call) }

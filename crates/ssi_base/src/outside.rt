@@ -1,8 +1,8 @@
 // Where bytes come from and where they go.
-ghost use Rattle.std.specs.Prelude.{ℕ, ◌<◌, ◌≤◌, List, Option, length, IfOk};
+ghost use Rattle.std.specs.Prelude.{ℕ, ◌<◌, List, Option, length, IfOk};
 ghost use Rattle.std.specs.Io.{ReadsAtMost, WritesAtMost};
 ghost use Rattle.std.specs.Io.KnownBytes.{ReadConsumes, WriteAppends};
-ghost use Rattle.ssi_base.specs.Faults.{Faults, HasCause};
+ghost use Rattle.ssi_base.specs.Faults.{Faults, HasCause, IsBounded};
 
 /// The outside could not give or take bytes, and its count of faults says so.
 #[derive(Clone, Copy, Debug, PartialEq, Eq)]
@@ -23,8 +23,8 @@ pub trait Source {
         ensures bytes { ReadConsumes (left self.old) (left self.new) result buf.new }
         ensures cause { HasCause (faults self.old) (faults self.new) result };
 
-    /// The count stays within its most.
-    ghost within: { (source : Self) → (faults source).count ≤ (faults source).most };
+    /// The count stays within its most, and the most within the last number of a count.
+    ghost bounded: { (source : Self) → IsBounded (faults source) };
 }
 
 /// What takes bytes, one after another.
@@ -43,6 +43,6 @@ pub trait Sink {
         ensures bytes { WriteAppends (written self.old) (written self.new) result piece.now }
         ensures cause { HasCause (faults self.old) (faults self.new) result };
 
-    /// The count stays within its most.
-    ghost within: { (sink : Self) → (faults sink).count ≤ (faults sink).most };
+    /// The count stays within its most, and the most within the last number of a count.
+    ghost bounded: { (sink : Self) → IsBounded (faults sink) };
 }

@@ -1,11 +1,12 @@
 // The edge to std's readers and writers. It tells the layers above no bytes, and counts each failure.
-ghost use Rattle.std.specs.Prelude.{◌≡◌, ◌<◌, length, IfOk, is_err, if◌then◌else◌};
+ghost use Rattle.std.specs.Prelude.{◌≡◌, ◌<◌, [], length, IfOk, OnOk, is_err, if◌then◌else◌};
 ghost use Rattle.std.specs.Io.{ReadsAtMost, WritesAtMost};
+ghost use Rattle.std.specs.Io.Buffered.{writer_buffer, writer_contents};
 ghost use Rattle.std.specs.Io.KnownBytes.{Keeps, ReadConsumes, WriteAppends};
 ghost use Rattle.ssi_base.specs.Faults.{HasCause, unbounded, one_more};
 
 use crate::outside::{Failed, Sink, Source};
-use std::io::{Read, Write};
+use std::io::{BufWriter, Read, Write};
 use std::marker::Model;
 
 /// Reads from a reader of std. Contracts see the reader, and how often it has failed.
@@ -34,13 +35,13 @@ impl<R: Read + Drop> StdSource<R> {
 
 impl<R: Read + Drop> Source for StdSource<R> {
     ghost use Rattle.std.specs.Prelude.{None};
-    ghost use Rattle.ssi_base.specs.Faults.{unbounded, unbounded_within};
+    ghost use Rattle.ssi_base.specs.Faults.{unbounded, unbounded_bounded};
 
     ghost left = { λ _. None };
 
     ghost faults = { λ s. unbounded s.failed };
 
-    ghost within = { λ s. unbounded_within s.failed };
+    ghost bounded = { λ s. unbounded_bounded s.failed };
 
     fn read(&mut self, buf: &mut [u8]) -> Result<usize, Failed>
         ensures bound { ReadsAtMost result buf.new }
@@ -83,11 +84,23 @@ impl<W: Write + Drop> StdSink<W> {
         StdSink { writer, failed: 0 }
     }
 
-    /// Passes on what the writer still holds back. After `Failed` some of it may not have gone out.
+    /// The writer below, as it is: nothing is flushed, and what it holds back it still holds.
+    pub fn into_inner(self) -> W
+        ensures { result ≡ self.inner }
+    {
+        self.writer
+    }
+}
+
+impl<W: Write + Drop> StdSink<BufWriter<W>> {
+    /// Passes on all that the buffer still holds back. After `Failed` some of it may have gone out,
+    /// and the buffer holds the rest.
     pub fn flush(&mut self) -> Result<(), Failed>
+        ensures empty { OnOk result (writer_buffer self.new.inner ≡ []) }
+        ensures bytes { Keeps (writer_contents W.contents self.old.inner)
+            (writer_contents W.contents self.new.inner) }
         ensures count { self.new.failed ≡
             (if is_err result then one_more self.old.failed else self.old.failed) }
-        ensures bytes { Keeps (W.contents self.old.inner) (W.contents self.new.inner) }
         ensures cause { HasCause (unbounded self.old.failed) (unbounded self.new.failed) result }
     {
         match self.writer.flush() {
@@ -102,13 +115,13 @@ impl<W: Write + Drop> StdSink<W> {
 
 impl<W: Write + Drop> Sink for StdSink<W> {
     ghost use Rattle.std.specs.Prelude.{None};
-    ghost use Rattle.ssi_base.specs.Faults.{unbounded, unbounded_within};
+    ghost use Rattle.ssi_base.specs.Faults.{unbounded, unbounded_bounded};
 
     ghost written = { λ _. None };
 
     ghost faults = { λ s. unbounded s.failed };
 
-    ghost within = { λ s. unbounded_within s.failed };
+    ghost bounded = { λ s. unbounded_bounded s.failed };
 
     fn write(&mut self, piece: &[u8]) -> Result<usize, Failed>
         ensures bound { WritesAtMost result piece.now }

@@ -7,6 +7,7 @@ use crate::{
     write_all,
 };
 use std::alloc::Global;
+use std::io::BufWriter;
 use std::test::Fail;
 
 const INPUT: &[u8] = b"file PTS P1 on T1 .";
@@ -173,9 +174,7 @@ fn readers_and_writers_of_std(rt: HostRuntime) -> Result<(), Fail> {
     assert_eq!(rt; read.as_slice(), INPUT);
 
     let mut written = Vec::new(alloc);
-    let mut sink = StdSink::new(&mut written);
-    write_all(&mut sink, LINE)?;
-    sink.flush()?;
+    write_all(&mut StdSink::new(&mut written), LINE)?;
     assert_eq!(rt; written.as_slice(), LINE);
 
     // A full slice takes nothing.
@@ -184,5 +183,26 @@ fn readers_and_writers_of_std(rt: HostRuntime) -> Result<(), Fail> {
         write_all(&mut StdSink::new(room.as_mut_slice()), LINE),
         Err(Failed)
     );
+    Ok(())
+}
+
+#[test]
+fn bytes_held_back_go_out_by_a_flush_alone(rt: HostRuntime) -> Result<(), Fail> {
+    let alloc = rt.alloc();
+    for flushes in [false, true] {
+        let mut written = Vec::new(alloc);
+        let mut sink = StdSink::new(BufWriter::with_capacity(alloc, 64, &mut written)?);
+        write_all(&mut sink, LINE)?;
+        if flushes {
+            sink.flush()?;
+        }
+        let (_, held_back) = sink.into_inner().into_parts();
+        let (gone, held) = if flushes {
+            (LINE, 0)
+        } else {
+            (b"".as_slice(), LINE.len())
+        };
+        assert_eq!(rt; (written.as_slice(), held_back.len()), (gone, held));
+    }
     Ok(())
 }

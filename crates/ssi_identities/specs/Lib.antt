@@ -1,5 +1,8 @@
 pub mod Facts
+pub mod Words
 pub mod NameLists
+pub mod DataSets
+pub mod States
 pub mod Values
-pub mod Effects
+pub mod Steps
 pub mod WorkedExamples

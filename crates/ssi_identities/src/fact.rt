@@ -1,9 +1,11 @@
 //! Kinds of identities, and the numbers of the facts of a state.
 
-ghost use Rattle.std.specs.Prelude.{◌≡◌, ℕ, ◌<◌, ◌≤◌, ◌+◌, ◌*◌};
+ghost use Rattle.std.specs.Prelude.{◌≡◌, ℕ, ◌<◌, ◌≤◌, ◌+◌, ◌*◌, length, map, slice_get, Some};
+ghost use Rattle.std.specs.List.{range_with_len};
 ghost use Rattle.ssi_identities.specs.declared.fact.Counts.{Counts};
 ghost use Rattle.ssi_identities.specs.declared.fact.FactKind.{FactKind};
-ghost use Rattle.ssi_identities.specs.Facts.{IsWithinLimits, count_of, fact_count_of, fact_number_of, first_of_routes};
+ghost use Rattle.ssi_identities.specs.Facts.{IsWithinLimits, count_of, fact_count_of, fact_number_of, facts_of, first_of_routes, identity_of, number_of_fact};
+ghost use Rattle.ssi_identities.specs.Words.{word_of};
 
 /// A kind of identity. The first letter of an identity's name tells its kind.
 #[derive(Clone, Copy, Debug, PartialEq, Eq)]
@@ -45,6 +47,41 @@ pub enum FactKind {
     Locked,
     /// The flag is set.
     FlagSet,
+}
+
+impl FactKind {
+    /// The kind of identity that such a fact is of.
+    pub fn identity(self) -> Kind
+        ensures { result ≡ identity_of self }
+    {
+        match self {
+            FactKind::Reverse | FactKind::DetectedNormal | FactKind::DetectedReverse =>
+                Kind::Points,
+            FactKind::Lamp => Kind::Signal,
+            FactKind::Occupied => Kind::Track,
+            FactKind::RouteSet | FactKind::RouteBarred => Kind::Route,
+            FactKind::Locked => Kind::Subroute,
+            FactKind::FlagSet => Kind::Flag,
+        }
+    }
+
+    /// The word for such a fact that is true or false.
+    pub fn word(self, value: bool) -> &'static [u8]
+        ensures { result.now ≡ word_of self value }
+    {
+        let (when_true, when_false): (&'static [u8], &'static [u8]) = match self {
+            FactKind::Reverse => (b"cr", b"cn"),
+            FactKind::DetectedNormal => (b"dn", b"xdn"),
+            FactKind::DetectedReverse => (b"dr", b"xdr"),
+            FactKind::Lamp => (b"lp", b"xlp"),
+            FactKind::Occupied => (b"o", b"c"),
+            FactKind::RouteSet => (b"s", b"xs"),
+            FactKind::RouteBarred => (b"xa", b"a"),
+            FactKind::Locked => (b"l", b"f"),
+            FactKind::FlagSet => (b"s", b"xs"),
+        };
+        if value { when_true } else { when_false }
+    }
 }
 
 /// How many identities of each kind there are.
@@ -165,4 +202,15 @@ pub fn one_fact()
         → index < count_of counts kind → place < count_of counts other
         → fact_number_of counts kind index ≡ fact_number_of counts other place
         → (kind ≡ other) × (index ≡ place) }
+{}
+
+/// The facts in their order: there are as many as [`fact_count`] says, each stands at its number, and
+/// their numbers are those from 0 on.
+pub fn facts_in_order()
+    ensures count { (counts : Counts) → length (facts_of counts) ≡ fact_count_of counts }
+    ensures place { (counts : Counts) (kind : FactKind) (index : ℕ) → index < count_of counts kind
+        → slice_get (facts_of counts) (fact_number_of counts kind index)
+        ≡ Some (record { kind = kind; index = index }) }
+    ensures numbers { (counts : Counts)
+        → map (number_of_fact counts) (facts_of counts) ≡ range_with_len 0 (fact_count_of counts) }
 {}

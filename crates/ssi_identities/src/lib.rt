@@ -1,8 +1,12 @@
-//! The data set as numbers: identities, facts, conditions and bodies, and what these mean in a state.
+//! The data set as numbers: identities with their names, facts, states, conditions and bodies, and what
+//! these mean.
 //!
-//! The layer above may rely on the numbers of facts ([`fact_number`], [`fact_of`]), on [`Names`], which
-//! number the names of each kind in the order of their first declaration, and on the definitions of value
-//! and effect, with the laws of [`laws_of_bodies`]. It stands on `ssi_base` for want of memory.
+//! The layer above may rely on the numbers of facts ([`fact_number`], [`fact_of`], [`facts_in_order`]), on
+//! their words ([`FactKind::word`]), on [`Names`], which number the names of each kind in the order of
+//! their first declaration, on the counts and names of a [`DataSet`], and on the state at the [`start`].
+//! The definitions of value, steps and effect stand here, with the laws that they go by
+//! ([`laws_of_effects`], [`laws_of_command_counts`], [`laws_of_steps`]). It stands on `ssi_base` for want
+//! of memory.
 #![tactic(auto)]
 
 mod data_set;
@@ -11,13 +15,20 @@ mod meaning;
 mod name;
 mod names;
 mod rule;
+mod state;
 
-pub use data_set::{DataSet, RequestRow};
-pub use fact::{Counts, FactKind, Kind, fact_count, fact_number, fact_of, one_fact};
-pub use meaning::{laws_of_bodies, worked_bodies, worked_conditions};
+pub use data_set::{DataSet, PointsRow, RequestRow, RouteRow, SubRow};
+pub use fact::{
+    Counts, FactKind, Kind, fact_count, fact_number, fact_of, facts_in_order, one_fact,
+};
+pub use meaning::{
+    laws_of_command_counts, laws_of_effects, laws_of_steps, worked_bits, worked_bodies,
+    worked_conditions, worked_steps,
+};
 pub use name::Name;
 pub use names::{Added, Names};
 pub use rule::{Body, BodyItem, Cmd, Cond, CondItem};
+pub use state::{laws_of_the_start, start};
 
 #[cfg(test)]
 mod tests;

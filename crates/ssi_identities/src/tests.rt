@@ -1,6 +1,8 @@
-ghost use Rattle.std.specs.Prelude.{◌<◌, length};
+ghost use Rattle.std.specs.Prelude.{◌<◌, length, IfOk};
+ghost use Rattle.ssi_identities.specs.DataSets.{IsCountable};
 
 use super::*;
+use sqlite_items::Items;
 use std::alloc::Global;
 use std::process::Abort;
 use std::test::Fail;
@@ -149,6 +151,159 @@ fn names_are_numbered_within_their_kind(rt: HostRuntime) -> Result<(), Fail> {
     ];
     for (kind, text, want) in finds {
         assert_eq!(rt; names.find(kind, text), want);
+    }
+    Ok(())
+}
+
+#[test]
+fn facts_have_their_words(rt: HostRuntime) {
+    let rows: [(FactKind, &[u8], &[u8]); 9] = [
+        (FactKind::Reverse, b"cr", b"cn"),
+        (FactKind::DetectedNormal, b"dn", b"xdn"),
+        (FactKind::DetectedReverse, b"dr", b"xdr"),
+        (FactKind::Lamp, b"lp", b"xlp"),
+        (FactKind::Occupied, b"o", b"c"),
+        (FactKind::RouteSet, b"s", b"xs"),
+        (FactKind::RouteBarred, b"xa", b"a"),
+        (FactKind::Locked, b"l", b"f"),
+        (FactKind::FlagSet, b"s", b"xs"),
+    ];
+    for (kind, when_true, when_false) in rows {
+        assert_eq!(rt; kind.word(true), when_true, "of {kind:?}");
+        assert_eq!(rt; kind.word(false), when_false, "of {kind:?}");
+    }
+}
+
+#[test]
+fn facts_are_of_their_kind_of_identity(rt: HostRuntime) {
+    let rows: [(FactKind, Kind); 9] = [
+        (FactKind::Reverse, Kind::Points),
+        (FactKind::DetectedNormal, Kind::Points),
+        (FactKind::DetectedReverse, Kind::Points),
+        (FactKind::Lamp, Kind::Signal),
+        (FactKind::Occupied, Kind::Track),
+        (FactKind::RouteSet, Kind::Route),
+        (FactKind::RouteBarred, Kind::Route),
+        (FactKind::Locked, Kind::Subroute),
+        (FactKind::FlagSet, Kind::Flag),
+    ];
+    for (kind, identity) in rows {
+        assert_eq!(rt; kind.identity(), identity, "of {kind:?}");
+    }
+}
+
+#[test]
+fn tracks_are_occupied_at_the_start(rt: HostRuntime) -> Result<(), Fail> {
+    let counts = Counts {
+        points: 1,
+        signals: 2,
+        tracks: 3,
+        routes: 1,
+        subs: 2,
+        flags: 1,
+        requests: 4,
+    };
+    let state = start(rt.alloc(), &counts)?;
+    let want = [
+        false, false, false, false, false, true, true, true, false, false, false, false, false,
+    ];
+    assert_eq!(rt; state.as_slice(), want.as_slice());
+    Ok(())
+}
+
+/// Two points, a signal, two tracks, a route, two sub-routes, three flags and two requests.
+fn small_data_set(alloc: Global) -> Result<DataSet, Fail>
+    ensures { IfOk result IsCountable }
+{
+    let first_points = PointsRow {
+        name: Name::new(b"P1"),
+        tracks: vec![in alloc; 0]?,
+    };
+    let second_points = PointsRow {
+        name: Name::new(b"P2"),
+        tracks: vec![in alloc; 0, 1]?,
+    };
+    let route = RouteRow {
+        name: Name::new(b"R1"),
+        signal: 0,
+        subs: vec![in alloc; 0, 1]?,
+    };
+    let first_sub = SubRow {
+        name: Name::new(b"U1"),
+        track: 0,
+        lies: vec![in alloc; (0, false)]?,
+    };
+    let second_sub = SubRow {
+        name: Name::new(b"U2"),
+        track: 1,
+        lies: vec![in alloc; (0, true), (1, false)]?,
+    };
+    let first_request = RequestRow {
+        name: Name::new(b"Q1"),
+        body: Body {
+            items: Items::new(alloc),
+        },
+    };
+    let set_l1 = BodyItem::Do(Cmd {
+        fact: 13,
+        value: true,
+    });
+    let second_request = RequestRow {
+        name: Name::new(b"QBCDEFGHIJ-12345"),
+        body: Body {
+            items: Items::from_vec(vec![in alloc; set_l1]?),
+        },
+    };
+    Ok(DataSet {
+        points: vec![in alloc; first_points, second_points]?,
+        signals: vec![in alloc; Name::new(b"S1")]?,
+        tracks: vec![in alloc; Name::new(b"T1"), Name::new(b"T2")]?,
+        routes: vec![in alloc; route]?,
+        subs: vec![in alloc; first_sub, second_sub]?,
+        flags: vec![in alloc; Name::new(b"L1"), Name::new(b"L2"), Name::new(b"L3")]?,
+        requests: vec![in alloc; first_request, second_request]?,
+    })
+}
+
+#[test]
+fn data_set_counts_its_identities(rt: HostRuntime) -> Result<(), Fail> {
+    let plan = small_data_set(rt.alloc())?;
+    let want = Counts {
+        points: 2,
+        signals: 1,
+        tracks: 2,
+        routes: 1,
+        subs: 2,
+        flags: 3,
+        requests: 2,
+    };
+    assert_eq!(rt; plan.counts(), want);
+    Ok(())
+}
+
+#[test]
+fn data_set_names_its_identities(rt: HostRuntime) -> Result<(), Fail> {
+    let plan = small_data_set(rt.alloc())?;
+    let rows: [(Kind, u16, &[u8]); 16] = [
+        (Kind::Points, 0, b"P1"),
+        (Kind::Points, 1, b"P2"),
+        (Kind::Points, 2, b""),
+        (Kind::Signal, 0, b"S1"),
+        (Kind::Signal, 1, b""),
+        (Kind::Track, 0, b"T1"),
+        (Kind::Track, 1, b"T2"),
+        (Kind::Route, 0, b"R1"),
+        (Kind::Route, 1, b""),
+        (Kind::Subroute, 0, b"U1"),
+        (Kind::Subroute, 1, b"U2"),
+        (Kind::Flag, 0, b"L1"),
+        (Kind::Flag, 2, b"L3"),
+        (Kind::Request, 0, b"Q1"),
+        (Kind::Request, 1, b"QBCDEFGHIJ-12345"),
+        (Kind::Request, 65535, b""),
+    ];
+    for (kind, index, want) in rows {
+        assert_eq!(rt; plan.name(kind, index), want, "{kind:?} {index}");
     }
     Ok(())
 }

@@ -1,9 +1,8 @@
 -- Cutting a text piece by piece.
 use Rattle.std.proofs.Common.{◌≡◌, ℕ, zero, suc, ◌≤◌, true, false, List, [], ◌∷◌, length, Option, Some, None, refl, ap, ◌∙◌, arith}
 use Rattle.ssi_lexer.specs.declared.token.TextEnd.TheVariants.{Finished, Faulty}
-use Rattle.ssi_lexer.specs.declared.token.TheConstants.{BAD_CHARACTER}
 use Rattle.ssi_lexer.specs.declared.scan.Cursor.{Cursor}
-use Rattle.ssi_lexer.specs.Pieces.{PieceKind, is_piece}
+use Rattle.ssi_lexer.specs.Pieces.{PieceKind, is_piece, bad_character_code}
 use Rattle.ssi_lexer.specs.Scan.{kind_at, run_of, rest_of, Cut, with_piece, begun, cut_within, cut_of, code_of, past, with_lexeme, stream_by, stream}
 use Rattle.ssi_lexer.proofs.Runs.{rest_shorter}
 
@@ -55,6 +54,6 @@ stream_fault kind cursor b bs e p =
 
 -- a byte in front that begins no piece
 pub stream_bad : (cursor : Cursor) (b : ℕ) (bs : List ℕ) → kind_at b ≡ None
-    → stream cursor (b ∷ bs) ≡ ([], Faulty (record { code = BAD_CHARACTER; place = cursor.place }))
+    → stream cursor (b ∷ bs) ≡ ([], Faulty (record { code = bad_character_code; place = cursor.place }))
 stream_bad cursor b bs e =
     ap (stream_by cursor) (cut_of-cons b bs ∙ ap (λ (o : Option PieceKind). begun o b bs (λ kind. cut_of (rest_of kind bs))) e)

@@ -6,3 +6,10 @@ pub mod Cuttings
 pub mod Streams
 pub mod Lengths
 pub mod Standing
+pub mod OneToken
+pub mod Joining
+pub mod Choosing
+pub mod Repeating
+pub mod Listing
+pub mod Starting
+pub mod Numbers

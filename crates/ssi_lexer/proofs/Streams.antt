@@ -76,6 +76,12 @@ tokens_are text start found e =
       end_is = ap (λ (s : Stream). s.1) whole;
     }
 
+-- each text has tokens
+pub some_tokens : (text : List ℕ) (start : ℕ) → (lexemes : List Lexeme) × (end : TextEnd) × AreTokens text start lexemes end
+some_tokens text start =
+    let found = stream (first_cursor start) (drop start text) in
+    (found.0, found.1, tokens_are text start found refl)
+
 -- tokens of the text are those that the code finds
 pub tokens_unique : (text : List ℕ) (start : ℕ) (lexemes : List Lexeme) (end : TextEnd) → AreTokens text start lexemes end
     → (lexemes ≡ (stream (first_cursor start) (drop start text)).0) × (end ≡ (stream (first_cursor start) (drop start text)).1)

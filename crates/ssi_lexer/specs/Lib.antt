@@ -1,5 +1,9 @@
 pub mod Pieces
 pub mod Lexemes
 pub mod Readings
+pub mod TokenTests
+pub mod Languages
+pub mod Parsers
+pub mod Laws
 pub mod Scan
 pub mod Shown

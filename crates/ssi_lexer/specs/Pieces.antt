@@ -3,7 +3,6 @@ use Rattle.std.specs.Prelude.{◌≡◌, ℕ, Bool, true, false, ◌&&◌, ◌||
 use Rattle.std.specs.List.{AllPass}
 use Rattle.ssi_lexer.specs.declared.token.TokenKind.{TokenKind}
 use Rattle.ssi_lexer.specs.declared.token.TokenKind.TheVariants.{Name, Word, Number, Comma, Dot, Open, Close}
-use Rattle.ssi_lexer.specs.declared.token.TheConstants.{BAD_CHARACTER, LONG_NAME, BAD_NUMBER}
 
 -- what a piece of a text is: a separator, a comment, or a token of some kind
 pub data PieceKind : Type 0 where
@@ -84,12 +83,22 @@ is_piece (A Dot) bytes = true
 is_piece (A Open) bytes = true
 is_piece (A Close) bytes = true
 
+-- the codes of lexical faults: of a byte that begins no piece, a name of more than 16 characters, and digits that are no number
+abbrev pub bad_character_code : ℕ
+bad_character_code = 1
+
+abbrev pub long_name_code : ℕ
+long_name_code = 2
+
+abbrev pub bad_number_code : ℕ
+bad_number_code = 3
+
 -- The pieces, one after another, are the text up to its end, or up to the first byte where no piece
 -- begins: there the code of the fault is given.
 pub data IsCutting : List Piece → List ℕ → Option ℕ → Type 0 where
   text_ends : IsCutting [] [] None
-  bad_character : (byte : ℕ) (rest : List ℕ) → ((kind : PieceKind) → begins kind byte ≡ false) → IsCutting [] (byte ∷ rest) (Some BAD_CHARACTER)
-  long_name : (run rest : List ℕ) → IsRun (A Name) run rest → is_piece (A Name) run ≡ false → IsCutting [] (run ++ rest) (Some LONG_NAME)
-  bad_number : (run rest : List ℕ) → IsRun (A Number) run rest → is_piece (A Number) run ≡ false → IsCutting [] (run ++ rest) (Some BAD_NUMBER)
+  bad_character : (byte : ℕ) (rest : List ℕ) → ((kind : PieceKind) → begins kind byte ≡ false) → IsCutting [] (byte ∷ rest) (Some bad_character_code)
+  long_name : (run rest : List ℕ) → IsRun (A Name) run rest → is_piece (A Name) run ≡ false → IsCutting [] (run ++ rest) (Some long_name_code)
+  bad_number : (run rest : List ℕ) → IsRun (A Number) run rest → is_piece (A Number) run ≡ false → IsCutting [] (run ++ rest) (Some bad_number_code)
   a_piece : (kind : PieceKind) (run rest : List ℕ) (pieces : List Piece) (fault : Option ℕ) → IsRun kind run rest → is_piece kind run ≡ true
       → IsCutting pieces rest fault → IsCutting (record { kind = kind; bytes = run } ∷ pieces) (run ++ rest) fault

@@ -1,10 +1,12 @@
 -- What a reader of tokens shows.
-use Rattle.std.specs.Prelude.{◌≡◌, ℕ, ◌+◌, ◌<◌, ◌≤◌, List, [], ◌∷◌, length, Option, Some, None, Result, Ok, Err}
+use Rattle.std.specs.Prelude.{◌≡◌, ℕ, ◌+◌, ◌<◌, ◌≤◌, Bool, if◌then◌else◌, List, [], ◌∷◌, length, Option, Some, None, Result, Ok, Err}
 use Rattle.ssi_lexer.specs.declared.token.TokenKind.TheVariants.{Name, Number}
 use Rattle.ssi_lexer.specs.declared.token.Token.{Token}
 use Rattle.ssi_lexer.specs.declared.token.LexFault.{LexFault}
 use Rattle.ssi_lexer.specs.declared.token.TextEnd.{TextEnd}
 use Rattle.ssi_lexer.specs.declared.token.TextEnd.TheVariants.{Finished, Faulty}
+use Rattle.ssi_lexer.specs.declared.wanted.Stop.{Stop}
+use Rattle.ssi_lexer.specs.declared.wanted.Stop.TheVariants.{Syntax}
 use Rattle.ssi_lexer.specs.Lexemes.{Lexeme, token_of}
 
 -- a text, the byte past the last token taken, the tokens that are left, and how they end
@@ -49,3 +51,14 @@ pub record IsShort (token : Token) : Type 0 where
   pub some : 0 < token.len
   pub name : token.kind ≡ Name → token.len ≤ 16
   pub number : token.kind ≡ Number → token.len ≤ 7
+
+-- the first token, which passes the test; a fault of syntax where none does
+abbrev pub taken_of : (Lexeme → Bool) → List Lexeme → Result Token Stop
+taken_of test [] = Err Syntax
+taken_of test (lexeme ∷ lexemes) = if test lexeme then Ok (token_of lexeme) else Err Syntax
+
+-- tokens were taken, perhaps none; the text and the end of its tokens stay
+pub record GoesOn (old new : Reading) : Type 0 where
+  pub text : new.text ≡ old.text
+  pub end : new.end ≡ old.end
+  pub fewer : length new.left ≤ length old.left

@@ -6,12 +6,11 @@ use Rattle.ssi_lexer.specs.declared.token.TokenKind.TheVariants.{Name, Word, Num
 use Rattle.ssi_lexer.specs.declared.token.Token.{Token}
 use Rattle.ssi_lexer.specs.declared.token.TextEnd.{TextEnd}
 use Rattle.ssi_lexer.specs.declared.token.TextEnd.TheVariants.{Faulty}
-use Rattle.ssi_lexer.specs.declared.token.TheConstants.{BAD_CHARACTER, LONG_NAME, BAD_NUMBER}
 use Rattle.ssi_lexer.specs.declared.scan.Cursor.{Cursor}
 use Rattle.ssi_lexer.specs.declared.scan.Ahead.{Ahead}
 use Rattle.ssi_lexer.specs.declared.scan.Front.{Front}
 use Rattle.ssi_lexer.specs.declared.scan.Ahead.TheVariants.{Next, End}
-use Rattle.ssi_lexer.specs.Pieces.{PieceKind, Separator, Comment, A, Piece, is_separator, is_capital, is_small, is_digit, lengthens, is_piece}
+use Rattle.ssi_lexer.specs.Pieces.{PieceKind, Separator, Comment, A, Piece, is_separator, is_capital, is_small, is_digit, lengthens, is_piece, bad_character_code, long_name_code, bad_number_code}
 use Rattle.ssi_lexer.specs.Lexemes.{Lexeme, place_past, end_at}
 
 -- the kind of the token that begins with the byte
@@ -55,15 +54,15 @@ ended fault = record { pieces = []; fault = fault }
 
 -- the code of a run of the kind that is no piece
 abbrev pub code_of : PieceKind → ℕ
-code_of (A Number) = BAD_NUMBER
-code_of Separator = LONG_NAME
-code_of Comment = LONG_NAME
-code_of (A Name) = LONG_NAME
-code_of (A Word) = LONG_NAME
-code_of (A Comma) = LONG_NAME
-code_of (A Dot) = LONG_NAME
-code_of (A Open) = LONG_NAME
-code_of (A Close) = LONG_NAME
+code_of (A Number) = bad_number_code
+code_of Separator = long_name_code
+code_of Comment = long_name_code
+code_of (A Name) = long_name_code
+code_of (A Word) = long_name_code
+code_of (A Comma) = long_name_code
+code_of (A Dot) = long_name_code
+code_of (A Open) = long_name_code
+code_of (A Close) = long_name_code
 
 -- with a piece in front, where the run is one
 abbrev pub with_piece : Bool → PieceKind → List ℕ → Cut → Cut
@@ -72,7 +71,7 @@ with_piece false kind run cut = ended (Some (code_of kind))
 
 -- the pieces of a text that begins with a piece of the kind, or with none
 abbrev pub begun : Option PieceKind → ℕ → List ℕ → (PieceKind → Cut) → Cut
-begun None byte bytes after = ended (Some BAD_CHARACTER)
+begun None byte bytes after = ended (Some bad_character_code)
 begun (Some kind) byte bytes after = let run = byte ∷ run_of kind bytes in with_piece (is_piece kind run) kind run (after kind)
 
 -- a text of no more than so many bytes, cut: each piece takes a byte at least, so the count is never used up first

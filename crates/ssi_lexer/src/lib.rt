@@ -5,12 +5,17 @@
 //! (`AreTokens`), and no others. It stands on `ssi_base` for places.
 #![tactic(auto)]
 
+mod parts;
 mod scan;
+mod taking;
 mod token;
 mod tokens;
+mod wanted;
 
+pub use parts::{Entry, Part, entries, separated};
 pub use token::{BAD_CHARACTER, BAD_NUMBER, LONG_NAME, LexFault, TextEnd, Token, TokenKind};
 pub use tokens::{Tokens, one_cutting, tokens_stand};
+pub use wanted::{Stop, Wanted};
 
 #[cfg(test)]
 mod tests;

@@ -165,3 +165,64 @@ fn places_count_from_the_start(rt: HostRuntime) {
     one_cutting();
     tokens_stand();
 }
+
+#[test]
+fn tokens_are_taken_as_wanted(rt: HostRuntime) {
+    let text = b"file PTS P1 over T1 , 1234567.";
+    let rows = [
+        (Wanted::Word(b"file"), true),
+        (Wanted::Word(b"fil"), false),
+        (Wanted::Name(b"PTS"), true),
+        (Wanted::Name(b"P1"), true),
+        (Wanted::Word(b"with"), false),
+        (Wanted::Word(b"over"), true),
+        (Wanted::Identity(b"PU"), false),
+        (Wanted::Identity(b"ST"), true),
+        (Wanted::Kind(TokenKind::Dot), false),
+        (Wanted::Kind(TokenKind::Comma), true),
+        (Wanted::Kind(TokenKind::Number), true),
+        (Wanted::Kind(TokenKind::Dot), true),
+        (Wanted::Kind(TokenKind::Dot), false),
+    ];
+    let mut seen = Tokens::new(text, 0);
+    let mut eaten = Tokens::new(text, 0);
+    let mut taken = Tokens::new(text, 0);
+    for (wanted, expected) in rows {
+        let first = taken.first();
+        assert_eq!(rt; seen.sees(wanted), expected, "{wanted:?}");
+        assert_eq!(rt; eaten.eat(wanted), expected, "{wanted:?}");
+        let answer = taken.take(wanted);
+        if expected {
+            seen.skip();
+            assert_eq!(rt; answer.ok(), first, "{wanted:?}");
+        } else {
+            assert_eq!(rt; answer, Err(Stop::Syntax), "{wanted:?}");
+        }
+        assert_eq!(rt; eaten.position(), taken.position(), "{wanted:?}");
+        assert_eq!(rt; seen.position(), taken.position(), "{wanted:?}");
+    }
+    assert_eq!(rt; taken.position(), text.len());
+}
+
+#[test]
+fn an_identity_has_two_characters(rt: HostRuntime) {
+    assert!(rt; !Tokens::new(b"P", 0).sees(Wanted::Identity(b"P")));
+    assert!(rt; Tokens::new(b"P-", 0).sees(Wanted::Identity(b"P")));
+    assert!(rt; !Tokens::new(b"TP", 0).sees(Wanted::Identity(b"P")));
+}
+
+#[test]
+fn numbers_are_valued(rt: HostRuntime) {
+    let rows: [(&[u8], Option<u32>); 6] = [
+        (b"0", Some(0)),
+        (b"63.", Some(63)),
+        (b"9999999", Some(9_999_999)),
+        (b"10000000", None),
+        (b"T1", None),
+        (b"", None),
+    ];
+    for (text, expected) in rows {
+        assert!(rt; text.len() <= 100);
+        assert_eq!(rt; Tokens::new(text, 0).first_number(), expected);
+    }
+}

@@ -137,7 +137,8 @@ impl<'a> Tokens<'a> {
 
 /// A text has one cutting: its tokens, their places and their end are determined.
 pub fn one_cutting()
-    ensures { (text : List ℕ) (start : ℕ) (a b : List Lexeme) (e f : End)
+    ensures some { (text : List ℕ) (start : ℕ) → (lexemes : List Lexeme) × (end : End) × AreTokens text start lexemes end }
+    ensures one { (text : List ℕ) (start : ℕ) (a b : List Lexeme) (e f : End)
         → AreTokens text start a e → AreTokens text start b f → (a ≡ b) × (e ≡ f) }
 {}
 

@@ -1,283 +1,238 @@
--- Steps: each parser reads its part of the grammar, and what it reads is all there is.
-use Rattle.std.proofs.Common.{◌≡◌, ℕ, ◌+◌, ◌≤◌, ◌<◌, Bool, true, false, cond, codes, List, [], ◌∷◌, ◌++◌, length, Option, Some, None, Result, Ok, Err, option_map, refl, sym, ap, subst, ◌∙◌, append_assoc, length-append, zero-add, add_assoc, is_some, arith}
-use Rattle.std.proofs.lemmas.List.{append-nil}
+-- The steps of a script: what was read so far, and that every spelling of the tokens goes on with it.
+use Rattle.std.proofs.Common.{◌≡◌, ℕ, ◌+◌, ◌≤◌, ◌<◌, true, false, List, [], ◌∷◌, ◌++◌, length, map, Option, Some, None, is_some, Result, Ok, Err, option_map, refl, sym, ap, subst, ◌∙◌, append_assoc, zero-add, add_assoc, arith}
+use Rattle.std.specs.Option.{IfSome}
+use Rattle.std.specs.Result.{IsErrAnd}
+use Rattle.std.proofs.lemmas.List.{append-nil, map-append}
 use Rattle.ssi_base.specs.declared.place.Place.{Place}
-use Rattle.ssi_lexer.specs.declared.token.TextEnd.TheVariants.{Finished}
-use Rattle.ssi_lexer.specs.Readings.{first_of, end_if}
-use Rattle.ssi_lexer.specs.Lexemes.{Lexeme}
 use Rattle.ssi_lexer.specs.declared.token.TextEnd.{TextEnd}
-use Rattle.ssi_terms.specs.Tests.{Is, word, name, dot}
-use Rattle.ssi_terms.specs.Read.{Outcome, ◌&◌, pass}
-use Rattle.ssi_terms.proofs.Marks.{word_kind, word_text}
-use Rattle.ssi_terms.proofs.Laws.{Explains, Good, Always, Mark, mark, good_pass, Both, both, good_both, good_mapped, took}
+use Rattle.ssi_lexer.specs.declared.token.TextEnd.TheVariants.{Finished}
+use Rattle.ssi_lexer.specs.declared.token.TokenKind.TheVariants.{Number}
+use Rattle.ssi_lexer.specs.declared.wanted.Stop.{Stop}
+use Rattle.ssi_lexer.specs.declared.wanted.Stop.TheVariants as s
+use Rattle.ssi_lexer.specs.Lexemes.{Lexeme}
+use Rattle.ssi_lexer.specs.Readings.{first_of, end_if}
+use Rattle.ssi_lexer.specs.TokenTests.{of_kind, number, sees}
+use Rattle.ssi_lexer.specs.Languages.{Repeated}
+use Rattle.ssi_lexer.specs.Parsers.{Outcome, Parser, and_then, at_first, number_at, turns, Reads}
+use Rattle.ssi_lexer.specs.Laws.{Always, Lacks, Good}
+use Rattle.ssi_lexer.proofs.Joining.{took}
+use Rattle.ssi_lexer.proofs.Choosing.{Without}
+use Rattle.ssi_lexer.proofs.Numbers.{at_first_number, at_first_none}
+use Rattle.ssi_lexer.proofs.Repeating.{shorter, turns_stop, turns_go, turns_found, turns_complete, good_turns}
+use Rattle.ssi_run.specs.declared.refusal.Refusal.{Refusal}
+use Rattle.ssi_run.specs.declared.refusal.Refusal.TheVariants.{Later, Memory}
+use Rattle.ssi_run.specs.declared.script.StepTree.{StepTree}
 use Rattle.ssi_run.specs.declared.script.ScriptStep.{ScriptStep}
-use Rattle.ssi_run.specs.declared.script.ScriptStep.TheVariants.{Panel, Cycle}
+use Rattle.ssi_run.specs.Findings.{Finds}
+use Rattle.ssi_run.specs.Layouts.{all_of}
+use Rattle.ssi_run.specs.Refusals.{refusal_of_stop}
+use Rattle.ssi_run.specs.Scripts.{SpellsStep, step_of, IsFinished, AreSteps}
+use Rattle.ssi_run.specs.ScriptReading.{step, any}
+use Rattle.ssi_run.specs.StepRules.{good_step, step_starts}
 use Rattle.ssi_run.specs.Traces.{cycles_of, cycles_in}
-use Rattle.ssi_terms.specs.declared.read_fault.ReadFault.{ReadFault}
-use Rattle.ssi_terms.specs.declared.read_fault.ReadFault.TheVariants.{Later, Memory}
-use Rattle.ssi_terms.specs.Read.{Reads}
-use Rattle.ssi_run.specs.Findings.{FindsWhat}
-use Rattle.ssi_run.specs.Scripts.{IsFinished, AreSteps, IsScript, request_at, SpellsStep, a_put, some_cycles, SpellsSteps, no_step, a_step}
-use Rattle.ssi_run.specs.ScriptReading.{panel_at, count_at}
-use Rattle.ssi_run.specs.ScriptReading as spec
-use Rattle.ssi_run.proofs.Numbers.{panel_is, is_panel, count_is, is_count}
 
--- ---- a token that has a value
+-- ---- what a reader answers
 
-pub data Has {A : Type 0} (f : Lexeme → Option A) : A → List Lexeme → Type 0 where
-  has : (t : Lexeme) (x : A) → f t ≡ Some x → Has f x (t ∷ [])
+pub both_ways : {A : Type 0} (o : Outcome A) (halt : Stop × List Lexeme) (x : A × List Lexeme) → o ≡ Err halt → o ≡ Ok x → ⊥
+both_ways o halt x e f = absurd cc
 
-module _ (A : Type 0) (f : Lexeme → Option A) where
-  valued_by : (t : Lexeme) (ts : List Lexeme) (o : Option A) → f t ≡ o → Explains A (Has f) (t ∷ ts) (option_map (λ x. (x, ts)) o)
-  valued_by t ts None e = tt
-  valued_by t ts (Some x) e = record { used = t ∷ []; parts = refl; spells = has t x e }
+pub some_and_none : {X : Type 0} (o : Option X) (x : X) → o ≡ None → o ≡ Some x → ⊥
+some_and_none o x e f = absurd cc
 
-  valued_explains : (ts : List Lexeme) → Explains A (Has f) ts (spec.valued f ts)
-  unfolding spec.valued
-  valued_explains [] = tt
-  valued_explains (t ∷ ts) = valued_by t ts (f t) refl
+abbrev value_or : {A : Type 0} → A → Outcome A → A
+value_or a (Ok r) = r.0
+value_or a (Err halt) = a
 
-  valued_complete : (x : A) (used rest : List Lexeme) → Has f x used → spec.valued f (used ++ rest) ≡ Some (x, rest)
-  unfolding spec.valued
-  valued_complete x used rest (has t y e) = rw e refl
+abbrev rest_or : {A : Type 0} → List Lexeme → Outcome A → List Lexeme
+rest_or rest (Ok r) = r.1
+rest_or rest (Err halt) = rest
 
-  pub good_valued : Good A (spec.valued f) (Has f) Always
-  good_valued = record { explains = valued_explains; complete = λ x used rest s k. valued_complete x used rest s }
+pub one_value : {A : Type 0} (o : Outcome A) (x y : A × List Lexeme) → o ≡ Ok x → o ≡ Ok y → x.0 ≡ y.0
+one_value o x y e f = ap (value_or x.0) (sym e ∙ f)
 
--- ---- past the word of a step
+pub one_rest : {A : Type 0} (o : Outcome A) (x y : A × List Lexeme) → o ≡ Ok x → o ≡ Ok y → x.1 ≡ y.1
+one_rest o x y e f = ap (rest_or x.1) (sym e ∙ f)
 
-abbrev CyclesText : ℕ × Unit {0} → List Lexeme → Type 0
-CyclesText = Both ℕ (Unit {0}) (Has count_at) (Mark dot)
+pub one_found : {X : Type 0} (o : Option X) (x y : X) → o ≡ Some x → o ≡ Some y → x ≡ y
+one_found o x y e f = cc
 
-pub data CyclesRest : ScriptStep → List Lexeme → Type 0 where
-  cycles_rest : (n d : Lexeme) (count : ℕ) → count_at n ≡ Some count → Is dot d → CyclesRest (Cycle count) (n ∷ d ∷ [])
+-- ---- one token
 
-to_cycles_by : (x : ℕ) (y : Unit {0}) (u v : List Lexeme) → Has count_at x u → Mark dot y v → CyclesRest (Cycle x) (u ++ v)
-to_cycles_by x y u v (has n c e) (mark d h) = cycles_rest n d c e h
+-- the number that comes next, by what the lexer says of it
+pub next_is : (left : List Lexeme) (o : Option ℕ) → IfSome o (λ n. sees (number n) left ≡ true) → (o ≡ None → sees (of_kind Number) left ≡ false) → o ≡ at_first number_at left
+next_is left (Some n) some none = sym (at_first_number left n some)
+next_is left None some none = sym (at_first_none left (none refl))
 
-to_cycles : (x : ℕ × Unit {0}) (u : List Lexeme) → CyclesText x u → CyclesRest (Cycle x.0) u
-to_cycles x u (both c d v w s t) = to_cycles_by c d v w s t
+-- why a function failed that handed a refusal on
+pub failed_by : {T : Type 0} (r : Result T Refusal) (refusal : Refusal) → IsErrAnd r (λ given. given ≡ refusal) → r ≡ Err Later → refusal ≡ Later
+failed_by (Ok x) refusal is e = absurd cc
+failed_by (Err given) refusal is e = let same : given ≡ Later = cc in sym is ∙ same
 
-from_cycles : (y : ScriptStep) (u : List Lexeme) → CyclesRest y u → (x : ℕ × Unit {0}) × (y ≡ Cycle x.0) × CyclesText x u
-from_cycles y u (cycles_rest n d c e h) = ((c, tt), refl, both c tt (n ∷ []) (d ∷ []) (has n c e) (mark d h))
+-- a lookup that was refused as `Later` found nothing
+pub missing : {A : Type 0} (value : Option A) (refusal : Refusal) → refusal ≡ Later → Finds {A = A} value (Err refusal) → value ≡ None
+missing value Later e none = none
+missing value Memory e none = absurd cc
 
-pub good_cycles : Good ScriptStep spec.cycles CyclesRest Always
-unfolding spec.cycles
-good_cycles = good_mapped (ℕ × Unit {0}) ScriptStep (λ x. Cycle x.0) (spec.valued count_at & pass dot) CyclesText CyclesRest Always to_cycles from_cycles
-    (good_both ℕ (Unit {0}) (spec.valued count_at) (pass dot) (Has count_at) (Mark dot) Always Always (λ y v rest s k. tt) (good_valued ℕ count_at) (good_pass dot))
+-- a stop that the program tells as `Later` is one of syntax
+pub stopped_by : (A : Type 0) (outcome : Outcome A) (stop : Stop) (new : List Lexeme) → refusal_of_stop stop ≡ Later → Reads {A = A} outcome (Err stop) new → outcome ≡ Err (s.Syntax, new)
+stopped_by A outcome s.Syntax new e r = r
+stopped_by A outcome s.Memory new e r = absurd cc
 
-module _ (requests : List (List ℕ)) where
-  abbrev QueryText : ℕ × Unit {0} → List Lexeme → Type 0
-  QueryText = Both ℕ (Unit {0}) (Has (request_at requests)) (Mark dot)
+-- ---- lists of what may be missing
 
-  abbrev PutText : ℕ × (ℕ × Unit {0}) → List Lexeme → Type 0
-  PutText = Both ℕ (ℕ × Unit {0}) (Has panel_at) QueryText
+pub none_among : {X : Type 0} (front back : List (Option X)) → all_of (front ++ None ∷ back) ≡ None
+none_among [] back = refl
+none_among (None ∷ front) back = refl
+none_among (Some x ∷ front) back = ap (option_map (λ xs. x ∷ xs)) (none_among front back)
 
-  pub data PutRest : ScriptStep → List Lexeme → Type 0 where
-    put_rest : (p q d : Lexeme) (panel request : ℕ) → panel_at p ≡ Some panel → request_at requests q ≡ Some request → Is dot d → PutRest (Panel panel request) (p ∷ q ∷ d ∷ [])
+all_by : {X : Type 0} (x : X) (o : Option (List X)) (found : List X) → option_map (λ xs. x ∷ xs) o ≡ Some found → (xs : List X) × (o ≡ Some xs) × (found ≡ x ∷ xs)
+all_by x None found e = absurd cc
+all_by x (Some xs) found e = (xs, refl, cc)
 
-  to_put_by : (x y : ℕ) (z : Unit {0}) (u v w : List Lexeme) → Has panel_at x u → Has (request_at requests) y v → Mark dot z w → PutRest (Panel x y) (u ++ (v ++ w))
-  to_put_by x y z u v w (has p c e) (has q r f) (mark d h) = put_rest p q d c r e f h
+-- what is found of all begins with what is found of the first of them
+pub found_on : {X : Type 0} (front back : List (Option X)) (found all : List X) → all_of front ≡ Some found → all_of (front ++ back) ≡ Some all
+    → (more : List X) × (all ≡ found ++ more) × (all_of back ≡ Some more)
+found_on [] back found all e f = let none : found ≡ [] = cc in (all, rw none refl, f)
+found_on (None ∷ front) back found all e f = absurd cc
+found_on (Some x ∷ front) back found all e f =
+    let a = all_by x (all_of front) found e in
+    let b = all_by x (all_of (front ++ back)) all f in
+    let on = found_on front back a.0 b.0 a.1 b.1 in
+    (on.0, b.2 ∙ ap (λ xs. x ∷ xs) on.1 ∙ ap (λ xs. xs ++ on.0) (sym a.2), on.2)
 
-  to_put_and : (x : ℕ) (y : ℕ × Unit {0}) (u v : List Lexeme) → Has panel_at x u → QueryText y v → PutRest (Panel x y.0) (u ++ v)
-  to_put_and x y u v s (both r d v1 v2 t w) = to_put_by x r d u v1 v2 s t w
-
-  to_put : (x : ℕ × (ℕ × Unit {0})) (u : List Lexeme) → PutText x u → PutRest (Panel x.0 x.1.0) u
-  to_put x u (both c y v w s t) = to_put_and c y v w s t
-
-  from_put : (y : ScriptStep) (u : List Lexeme) → PutRest y u → (x : ℕ × (ℕ × Unit {0})) × (y ≡ Panel x.0 x.1.0) × PutText x u
-  from_put y u (put_rest p q d c r e f h) =
-      ((c, (r, tt)), refl, both c (r, tt) (p ∷ []) (q ∷ d ∷ []) (has p c e) (both r tt (q ∷ []) (d ∷ []) (has q r f) (mark d h)))
-
-  pub good_put : Good ScriptStep (spec.put requests) PutRest Always
-  unfolding spec.put
-  good_put = good_mapped (ℕ × (ℕ × Unit {0})) ScriptStep (λ x. Panel x.0 x.1.0) (spec.valued panel_at & (spec.valued (request_at requests) & pass dot)) PutText PutRest Always to_put from_put
-      (good_both ℕ (ℕ × Unit {0}) (spec.valued panel_at) (spec.valued (request_at requests) & pass dot) (Has panel_at) QueryText Always Always (λ y v rest s k. tt) (good_valued ℕ panel_at)
-      (good_both ℕ (Unit {0}) (spec.valued (request_at requests)) (pass dot) (Has (request_at requests)) (Mark dot) Always Always (λ y v rest s k. tt)
-      (good_valued ℕ (request_at requests)) (good_pass dot)))
+-- one more is found
+pub one_more : {X : Type 0} (front : List (Option X)) (found : List X) (o : Option X) (x : X) → all_of front ≡ Some found → o ≡ Some x → all_of (front ++ o ∷ []) ≡ Some (found ++ x ∷ [])
+one_more [] found o x e f = let none : found ≡ [] = cc in rw (f, none) refl
+one_more (None ∷ front) found o x e f = absurd cc
+one_more (Some y ∷ front) found o x e f =
+    let a = all_by y (all_of front) found e in
+    ap (option_map (λ xs. y ∷ xs)) (one_more front a.0 o x a.1 f) ∙ ap (λ xs. Some (xs ++ x ∷ [])) (sym a.2)
 
 -- a reader that answers that the text is finished is at its end
 pub finished_by : (left : List Lexeme) (end was : TextEnd) (place : Place) → end ≡ was → end_if left end ≡ Some (Finished place) → IsFinished was
 finished_by [] end was place same e = let h : was ≡ Finished place = cc in rw h tt
-finished_by (t ∷ left) end was place same e = absurd (cc)
+finished_by (t ∷ left) end was place same e = absurd cc
 
--- ---- one step
-
-cycle_not_panel : (t : Lexeme) → Is (word (codes "cycle")) t → word (codes "panel") t ≡ false
-cycle_not_panel t e = rw (word_kind (codes "cycle") t e, word_text (codes "cycle") t e) refl
-
-true_is_false : true ≡ false → ⊥
-true_is_false e = absurd cc
-
-some_is_none : {X : Type 0} {x : X} → Some x ≡ None → ⊥
-some_is_none e = absurd cc
+-- ---- cycles
 
 pub cycles-append : (a b : List ScriptStep) → cycles_in (a ++ b) ≡ cycles_in a + cycles_in b
 cycles-append [] b = sym (zero-add (cycles_in b))
 cycles-append (x ∷ a) b = ap (λ n. cycles_of x + n) (cycles-append a b) ∙ sym (add_assoc (cycles_of x) (cycles_in a) (cycles_in b))
 
-module _ (requests : List (List ℕ)) where
-  put_step : (w : Lexeme) → Is (word (codes "panel")) w → (y : ScriptStep) (u : List Lexeme) → PutRest requests y u → SpellsStep requests y (w ∷ u)
-  put_step w is y u (put_rest p q d c r e f h) = let k = panel_is p c e in a_put w p q d c r is k.0 k.1 f h
+-- ---- steps as they are written
 
-  cycles_step : (w : Lexeme) → Is (word (codes "cycle")) w → (y : ScriptStep) (u : List Lexeme) → CyclesRest y u → SpellsStep requests y (w ∷ u)
-  cycles_step w is y u (cycles_rest n d c e h) = let k = count_is n c e in some_cycles w n d c is k.0 k.1 h
+some_seen : (left : List Lexeme) → is_some (first_of left) ≡ true → sees any left ≡ true
+some_seen [] e = absurd cc
+some_seen (t ∷ left) e = refl
 
-  behind : (S : ScriptStep → List Lexeme → Type 0) (w : Lexeme) → ((y : ScriptStep) (u : List Lexeme) → S y u → SpellsStep requests y (w ∷ u))
-      → (ts : List Lexeme) (o : Outcome ScriptStep) → Explains ScriptStep S ts o → Explains ScriptStep (SpellsStep requests) (w ∷ ts) o
-  behind S w spelled ts None e = tt
-  behind S w spelled ts (Some r) e = record { used = w ∷ e.used; parts = ap (λ (u : List Lexeme). w ∷ u) e.parts; spells = spelled r.0 e.used e.spells }
+no_token : (left : List Lexeme) → is_some (first_of left) ≡ false → left ≡ []
+no_token [] e = refl
+no_token (t ∷ left) e = absurd cc
 
-  step_by : (w : Lexeme) (ts : List Lexeme) (a b : Bool) → word (codes "panel") w ≡ a → word (codes "cycle") w ≡ b
-      → Explains ScriptStep (SpellsStep requests) (w ∷ ts) (cond a (spec.put requests ts) (cond b (spec.cycles ts) None))
-  step_by w ts true b e f = behind (PutRest requests) w (put_step w e) ts (spec.put requests ts) ((good_put requests).explains ts)
-  step_by w ts false true e f = behind CyclesRest w (cycles_step w f) ts (spec.cycles ts) (good_cycles.explains ts)
-  step_by w ts false false e f = tt
+abbrev meets : (ts : List Lexeme) → sees any ts ≡ true → Always ts
+meets ts e = tt
 
-  step_explains : (ts : List Lexeme) → Explains ScriptStep (SpellsStep requests) ts (spec.step requests ts)
-  unfolding spec.step
-  step_explains [] = tt
-  step_explains (w ∷ ts) = step_by w ts (word (codes "panel") w) (word (codes "cycle") w) refl refl
+-- what a reader of steps answers
+abbrev pub read_from : List StepTree → Parser (List StepTree)
+read_from trees = turns any step trees
 
-  step_complete : (x : ScriptStep) (used rest : List Lexeme) → SpellsStep requests x used → spec.step requests (used ++ rest) ≡ Some (x, rest)
-  unfolding spec.step
-  step_complete x used rest (a_put w p q d c r is z e f h) =
-      rw is ((good_put requests).complete (Panel c r) (p ∷ q ∷ d ∷ []) rest (put_rest p q d c r (is_panel p c z e) f h) tt)
-  step_complete x used rest (some_cycles w n d c is z e h) =
-      rw (cycle_not_panel w is, is) (good_cycles.complete (Cycle c) (n ∷ d ∷ []) rest (cycles_rest n d c (is_count n c z e) h) tt)
+pub good_steps : Good (List StepTree) (read_from []) (Repeated StepTree SpellsStep) (Lacks any) (Without any Always)
+good_steps = good_turns StepTree any step SpellsStep Always Always step_starts meets good_step
 
-  pub good_step : Good ScriptStep (spec.step requests) (SpellsStep requests) Always
-  good_step = record { explains = step_explains; complete = λ x used rest s k. step_complete x used rest s }
+-- a step takes a token
+pub step_shorter : (left : List Lexeme) (x : StepTree) (rest : List Lexeme) → step left ≡ Ok (x, rest) → length rest < length left
+step_shorter left x rest e = omega (arith, shorter StepTree any step SpellsStep Always Always step_starts meets good_step left x rest e)
 
-  -- ---- all steps
+some_left : (left : List Lexeme) (x : StepTree) (rest : List Lexeme) → step left ≡ Ok (x, rest) → sees any left ≡ true
+some_left [] x rest e = absurd (omega (arith, step_shorter [] x rest e))
+some_left (t ∷ left) x rest e = refl
 
-  -- what was read so far, and what every spelling of the tokens goes on with
+-- a step more is read
+read_more : (trees : List StepTree) (left : List Lexeme) (x : StepTree) (rest : List Lexeme) → step left ≡ Ok (x, rest) → read_from trees left ≡ read_from (trees ++ x ∷ []) rest
+read_more trees left x rest e = turns_go StepTree any step SpellsStep Always Always step_starts meets good_step trees left (some_left left x rest e) ∙ rw e refl
+
+-- steps that the tokens spell are those that the reader finds
+pub spelled_is : (trees : List StepTree) (tokens : List Lexeme) → Repeated StepTree SpellsStep trees tokens → read_from [] tokens ≡ Ok (trees, [])
+spelled_is trees tokens r =
+    ap (read_from []) (sym (append-nil tokens)) ∙ turns_complete StepTree any step SpellsStep Always Always step_starts meets good_step trees [] tokens [] r (record { lacks = refl; too = tt })
+
+with_by : (trees : List StepTree) (o : Outcome (List StepTree)) (all : List StepTree) (rest : List Lexeme) → and_then o (λ xs. λ left. Ok (trees ++ xs, left)) ≡ Ok (all, rest)
+    → (more : List StepTree) × (all ≡ trees ++ more)
+with_by trees (Err halt) all rest e = absurd cc
+with_by trees (Ok r) all rest e = let same : (trees ++ r.0, r.1) ≡ (all, rest) = cc in (r.0, ap (λ (p : List StepTree × List Lexeme). p.0) (sym same))
+
+-- what the reader finds begins with what was found before
+finds_on : (trees : List StepTree) (left : List Lexeme) (all : List StepTree) (rest : List Lexeme) → read_from trees left ≡ Ok (all, rest) → (more : List StepTree) × (all ≡ trees ++ more)
+finds_on trees left all rest e =
+    with_by trees (read_from [] left) all rest (sym (turns_found StepTree any step SpellsStep Always Always step_starts meets good_step trees left) ∙ e)
+
+module _ (text : List ℕ) (requests : List (List ℕ)) where
+  abbrev numbered : List StepTree → List (Option ScriptStep)
+  numbered trees = map (step_of text requests) trees
+
+  -- what was read so far of the tokens, and that its requests are declared
   pub record ReadsOn (tokens : List Lexeme) (steps : List ScriptStep) (left : List Lexeme) : Type 0 where
-    pub used : List Lexeme
-    pub parts : tokens ≡ used ++ left
-    pub spells : (more : List ScriptStep) (rest : List Lexeme) → SpellsSteps requests more rest → SpellsSteps requests (steps ++ more) (used ++ rest)
-    pub only : (all : List ScriptStep) → SpellsSteps requests all tokens → (more : List ScriptStep) × (all ≡ steps ++ more) × SpellsSteps requests more left
+    pub trees : List StepTree
+    pub same : read_from [] tokens ≡ read_from trees left
+    pub named : all_of (numbered trees) ≡ Some steps
 
   pub reads_none : (tokens : List Lexeme) → ReadsOn tokens [] tokens
-  reads_none tokens = record { used = []; parts = refl; spells = λ more rest s. s; only = λ all s. (all, refl, s) }
+  reads_none tokens = record { trees = []; same = refl; named = refl }
 
-  -- a spelling of tokens that are left begins with the step that is read
-  first_is : (more : List ScriptStep) (left : List Lexeme) → SpellsSteps requests more left → (x : ScriptStep) (rest : List Lexeme) → spec.step requests left ≡ Some (x, rest)
-      → (others : List ScriptStep) × (more ≡ x ∷ others) × SpellsSteps requests others rest
-  unfolding spec.step
-  first_is more left no_step x rest e = absurd cc
-  first_is more left (a_step step steps u v s t) x rest e =
-      let same : Some (step, v) ≡ Some (x, rest) = sym (step_complete step u v s) ∙ e in
-      let pair : (step, v) ≡ (x, rest) = cc in
-      (steps, ap (λ (p : ScriptStep × List Lexeme). p.0 ∷ steps) pair, let P : List Lexeme → Type 0 = SpellsSteps requests steps in subst P (ap (λ (p : ScriptStep × List Lexeme). p.1) pair) t)
+  pub reads_one : (tokens : List Lexeme) (steps : List ScriptStep) (left : List Lexeme) (x : StepTree) (rest : List Lexeme) (next : ScriptStep) → ReadsOn tokens steps left
+      → step left ≡ Ok (x, rest) → step_of text requests x ≡ Some next → ReadsOn tokens (steps ++ next ∷ []) rest
+  reads_one tokens steps left x rest next r e named = record {
+    trees = r.trees ++ x ∷ [];
+    same = r.same ∙ read_more r.trees left x rest e;
+    named = ap all_of (map-append (step_of text requests) r.trees (x ∷ [])) ∙ one_more (numbered r.trees) steps (step_of text requests x) next r.named named;
+  }
 
-  pub reads_one : (tokens : List Lexeme) (steps : List ScriptStep) (left : List Lexeme) (x : ScriptStep) (rest : List Lexeme) → ReadsOn tokens steps left
-      → spec.step requests left ≡ Some (x, rest) → ReadsOn tokens (steps ++ x ∷ []) rest
-  reads_one tokens steps left x rest r e =
-      let t = took ScriptStep (spec.step requests) (SpellsStep requests) Always good_step left x rest e in
-      record {
-        used = r.used ++ t.used;
-        parts = r.parts ∙ ap (λ (u : List Lexeme). r.used ++ u) t.parts ∙ sym (append_assoc r.used t.used rest);
-        spells = λ more rest' s. rw (append_assoc steps (x ∷ []) more, append_assoc r.used t.used rest') (r.spells (x ∷ more) (t.used ++ rest') (a_step x more t.used rest' t.spells s));
-        only = λ all s.
-            let o = r.only all s in
-            let f = first_is o.0 left o.2 x rest e in
-            (f.0, o.1 ∙ ap (λ (m : List ScriptStep). steps ++ m) f.1 ∙ sym (append_assoc steps (x ∷ []) f.0), f.2);
-      }
+  -- every spelling of the tokens goes on with the trees that were read
+  goes_on : (tokens : List Lexeme) (trees : List StepTree) (left : List Lexeme) → read_from [] tokens ≡ read_from trees left → (all : List StepTree) → Repeated StepTree SpellsStep all tokens
+      → (more : List StepTree) × (all ≡ trees ++ more)
+  goes_on tokens trees left same all spells = finds_on trees left all [] (sym same ∙ spelled_is all tokens spells)
 
-  nonempty : (x : ScriptStep) (u : List Lexeme) → SpellsStep requests x u → 0 < length u
-  nonempty x u (a_put w p q d c r is z e f h) = omega arith
-  nonempty x u (some_cycles w n d c is z e h) = omega arith
+  module _ (tokens : List Lexeme) (end : TextEnd) (steps : List ScriptStep) (left : List Lexeme) (r : ReadsOn tokens steps left) where
+    -- where no step is read, the tokens spell no steps
+    pub stuck : (halt : Stop × List Lexeme) → is_some (first_of left) ≡ true → step left ≡ Err halt → (all : List ScriptStep) → AreSteps text requests all tokens end → ⊥
+    stuck halt some e all are =
+        let seen = some_seen left some in
+        let stops : read_from r.trees left ≡ Err halt = turns_go StepTree any step SpellsStep Always Always step_starts meets good_step r.trees left seen ∙ rw e refl in
+        both_ways (read_from [] tokens) halt (are.trees, []) (r.same ∙ stops) (spelled_is are.trees tokens are.spells)
 
-  none_is : (b : List ScriptStep) (tokens : List Lexeme) → SpellsSteps requests b tokens → tokens ≡ [] → b ≡ []
-  none_is b tokens no_step e = refl
-  none_is b tokens (a_step step steps u v s t) e = absurd (omega (arith, nonempty step u s, ap length e, length-append u v))
+    module _ (x : StepTree) (rest : List Lexeme) (e : step left ≡ Ok (x, rest)) where
+      -- a step that names no declared request is one of each spelling
+      pub unnamed : step_of text requests x ≡ None → (all : List ScriptStep) → AreSteps text requests all tokens end → ⊥
+      unnamed none all are =
+          let on = goes_on tokens (r.trees ++ x ∷ []) rest (r.same ∙ read_more r.trees left x rest e) are.trees are.spells in
+          let f = step_of text requests in
+          let split : map f are.trees ≡ map f r.trees ++ f x ∷ map f on.0 = ap (map f) (on.1 ∙ append_assoc r.trees (x ∷ []) on.0) ∙ map-append f r.trees (x ∷ on.0) in
+          let missing : all_of (map f are.trees) ≡ None = ap all_of split ∙ ap (λ (o : Option ScriptStep). all_of (map f r.trees ++ o ∷ map f on.0)) none ∙ none_among (map f r.trees) (map f on.0) in
+          some_and_none (all_of (map f are.trees)) all missing are.named
 
-  -- a step takes a token
-  pub step_shorter : (left : List Lexeme) (x : ScriptStep) (rest : List Lexeme) → spec.step requests left ≡ Some (x, rest) → length rest < length left
-  step_shorter left x rest e =
-      let t = took ScriptStep (spec.step requests) (SpellsStep requests) Always good_step left x rest e in
-      omega (arith, ap length t.parts, length-append t.used rest, nonempty x t.used t.spells)
+      -- the cycles of a step count in each spelling
+      pub over : (next : ScriptStep) → step_of text requests x ≡ Some next → (all : List ScriptStep) → AreSteps text requests all tokens end → cycles_in steps + cycles_of next ≤ cycles_in all
+      over next named all are =
+          let f = step_of text requests in
+          let on = goes_on tokens (r.trees ++ x ∷ []) rest (r.same ∙ read_more r.trees left x rest e) are.trees are.spells in
+          let front : all_of (map f (r.trees ++ x ∷ [])) ≡ Some (steps ++ next ∷ []) = ap all_of (map-append f r.trees (x ∷ [])) ∙ one_more (map f r.trees) steps (f x) next r.named named in
+          let whole : all_of (map f (r.trees ++ x ∷ []) ++ map f on.0) ≡ Some all = ap all_of (sym (ap (map f) on.1 ∙ map-append f (r.trees ++ x ∷ []) on.0)) ∙ are.named in
+          let found = found_on (map f (r.trees ++ x ∷ [])) (map f on.0) (steps ++ next ∷ []) all front whole in
+          rw (found.1, cycles-append, cycles-append) (omega arith)
 
-  no_spelling : (more : List ScriptStep) (left : List Lexeme) → SpellsSteps requests more left → is_some (first_of left) ≡ true → spec.step requests left ≡ None → ⊥
-  no_spelling more left no_step some e = true_is_false (sym some)
-  no_spelling more left (a_step step steps u v s t) some e = some_is_none (sym (step_complete step u v s) ∙ e)
+    -- where no token is left, the tokens spell the trees
+    pub all_read : is_some (first_of left) ≡ false → Repeated StepTree SpellsStep r.trees tokens
+    all_read none =
+        let ends : read_from [] tokens ≡ Ok (r.trees, []) = r.same ∙ ap (read_from r.trees) (no_token left none) ∙ turns_stop StepTree any step SpellsStep Always Always step_starts meets good_step r.trees [] refl in
+        let t = took (List StepTree) (read_from []) (Repeated StepTree SpellsStep) (Lacks any) (Without any Always) good_steps tokens r.trees [] ends in
+        subst (Repeated StepTree SpellsStep r.trees) (sym (t.parts ∙ append-nil t.used)) t.spells
 
-  -- where no step is read, the tokens spell no steps
-  pub stuck : (tokens : List Lexeme) (steps : List ScriptStep) (left : List Lexeme) → ReadsOn tokens steps left → is_some (first_of left) ≡ true → spec.step requests left ≡ None
-      → (all : List ScriptStep) → SpellsSteps requests all tokens → ⊥
-  stuck tokens steps left r some e all s = let o = r.only all s in no_spelling o.0 left o.2 some e
+    -- so they are steps, where the text ends with no fault
+    pub are_steps : is_some (first_of left) ≡ false → cycles_in steps ≤ 1000000 → IsFinished end → AreSteps text requests steps tokens end
+    are_steps none within finished = record { trees = r.trees; spells = all_read none; named = r.named; within = within; finished = finished }
 
-  -- a step past the limit is one of each spelling
-  pub over : (tokens : List Lexeme) (steps : List ScriptStep) (left : List Lexeme) (x : ScriptStep) (rest : List Lexeme) → ReadsOn tokens steps left
-      → spec.step requests left ≡ Some (x, rest) → (all : List ScriptStep) → SpellsSteps requests all tokens → cycles_in steps + cycles_of x ≤ cycles_in all
-  over tokens steps left x rest r e all s =
-      let o = (reads_one tokens steps left x rest r e).only all s in
-      rw (o.1, cycles-append, cycles-append) (omega arith)
-
-  -- where no token is left, the tokens spell the steps
-  pub all_read : (tokens : List Lexeme) (steps : List ScriptStep) (left : List Lexeme) → ReadsOn tokens steps left → is_some (first_of left) ≡ false → SpellsSteps requests steps tokens
-  all_read tokens steps [] r none =
-      let h : SpellsSteps requests (steps ++ []) (r.used ++ []) = r.spells [] [] no_step in
-      rw r.parts (rw (append-nil steps) at h)
-  all_read tokens steps (t ∷ left) r none = absurd cc
-
-  -- one list of steps for the tokens
-  pub same_steps : (a b : List ScriptStep) (tokens : List Lexeme) → SpellsSteps requests a tokens → SpellsSteps requests b tokens → a ≡ b
-  same_steps a b tokens no_step t = sym (none_is b tokens t refl)
-  same_steps a b tokens (a_step step steps u v s r) t =
-      let f = first_is b (u ++ v) t step v (step_complete step u v s) in
-      ap (λ (xs : List ScriptStep). step ∷ xs) (same_steps steps f.0 v r f.2) ∙ sym f.1
-
-  -- a fault of a step, handed on
-  pub handed_on : (tokens : List Lexeme) (end : TextEnd) (steps : List ScriptStep) (left rest : List Lexeme) (fault : ReadFault) → ReadsOn tokens steps left
-      → is_some (first_of left) ≡ true → Reads {A = ScriptStep} (spec.step requests left) (Err fault) rest → FindsWhat (λ (all : List ScriptStep). AreSteps requests all tokens end) (Err fault)
-  handed_on tokens end steps left rest Later r some e = λ all are. stuck tokens steps left r some e all are.spells
-  handed_on tokens end steps left rest Memory r some e = tt
-
-  -- ---- the header
-
-  passed_by : (test : Lexeme → Bool) (ts : List Lexeme) (used rest : List Lexeme) (x : Unit {0}) → ts ≡ used ++ rest → Mark test x used → (t : Lexeme) × (ts ≡ t ∷ rest) × Is test t
-  passed_by test ts used rest x e (mark t is) = (t, e, is)
-
-  passed : (test : Lexeme → Bool) (ts : List Lexeme) (x : Unit {0}) (rest : List Lexeme) → pass test ts ≡ Some (x, rest) → (t : Lexeme) × (ts ≡ t ∷ rest) × Is test t
-  passed test ts x rest e = let t = took (Unit {0}) (pass test) (Mark test) Always (good_pass test) ts x rest e in passed_by test ts t.used rest x t.parts t.spells
-
-  not_passed : (test : Lexeme → Bool) (t : Lexeme) (rest : List Lexeme) → Is test t → pass test (t ∷ rest) ≡ None → ⊥
-  not_passed test t rest is e = some_is_none (sym ((good_pass test).complete tt (t ∷ []) rest (mark t is) tt) ∙ e)
-
-  abbrev Header : Lexeme → Bool
-  Header = word (codes "file")
-
-  abbrev File : Lexeme → Bool
-  File = name (codes "RUN")
-
-  pub no_header : (tokens : List Lexeme) (end : TextEnd) (rest : List Lexeme) (fault : ReadFault) → Reads {A = Unit {0}} (pass Header tokens) (Err fault) rest
-      → FindsWhat (λ (steps : List ScriptStep). IsScript requests steps tokens end) (Err fault)
-  no_header tokens end rest Later e = λ steps s. not_passed Header s.header (s.file ∷ s.rest) s.header_is (ap (pass Header) (sym s.parts) ∙ e)
-  no_header tokens end rest Memory e = tt
-
-  pub no_file : (tokens : List Lexeme) (end : TextEnd) (x : Unit {0}) (mid rest : List Lexeme) (fault : ReadFault) → pass Header tokens ≡ Some (x, mid) → Reads {A = Unit {0}} (pass File mid) (Err fault) rest
-      → FindsWhat (λ (steps : List ScriptStep). IsScript requests steps tokens end) (Err fault)
-  no_file tokens end x mid rest Later h e = λ steps s.
-      let p = passed Header tokens x mid h in
-      let same : p.0 ∷ mid ≡ s.header ∷ s.file ∷ s.rest = sym p.1 ∙ s.parts in
-      let mid_is : mid ≡ s.file ∷ s.rest = cc in
-      not_passed File s.file s.rest s.file_is (ap (pass File) (sym mid_is) ∙ e)
-  no_file tokens end x mid rest Memory h e = tt
-
-  module _ (tokens : List Lexeme) (end : TextEnd) (x y : Unit {0}) (mid rest : List Lexeme) (h : pass Header tokens ≡ Some (x, mid)) (f : pass File mid ≡ Some (y, rest)) where
-    pub script_by : (r : Result (List ScriptStep) ReadFault) → FindsWhat (λ (steps : List ScriptStep). AreSteps requests steps rest end) r
-        → FindsWhat (λ (steps : List ScriptStep). IsScript requests steps tokens end) r
-    script_by (Ok steps) are =
-        let p = passed Header tokens x mid h in
-        let q = passed File mid y rest f in
-        record { header = p.0; file = q.0; rest = rest; parts = p.1 ∙ ap (λ (ts : List Lexeme). p.0 ∷ ts) q.1; header_is = p.2; file_is = q.2; steps_are = are }
-    script_by (Err Later) none = λ steps s.
-        let p = passed Header tokens x mid h in
-        let q = passed File mid y rest f in
-        let same : p.0 ∷ q.0 ∷ rest ≡ s.header ∷ s.file ∷ s.rest = sym (p.1 ∙ ap (λ (ts : List Lexeme). p.0 ∷ ts) q.1) ∙ s.parts in
-        let rest_is : s.rest ≡ rest = cc in
-        let P : List Lexeme → Type 0 = λ ts. AreSteps requests steps ts end in
-        none steps (subst P rest_is s.steps_are)
-    script_by (Err Memory) none = tt
+-- one list of steps for the tokens
+pub same_steps : (text : List ℕ) (requests : List (List ℕ)) (a b : List ScriptStep) (tokens : List Lexeme) (end : TextEnd) → AreSteps text requests a tokens end → AreSteps text requests b tokens end → a ≡ b
+same_steps text requests a b tokens end s t =
+    let trees = one_value (read_from [] tokens) (s.trees, []) (t.trees, []) (spelled_is s.trees tokens s.spells) (spelled_is t.trees tokens t.spells) in
+    one_found (all_of (map (step_of text requests) t.trees)) a b (ap (λ (ts : List StepTree). all_of (map (step_of text requests) ts)) (sym trees) ∙ s.named) t.named

@@ -1,16 +1,17 @@
 -- What a function answers that finds a value, or finds that there is none.
-use Rattle.std.specs.Prelude.{◌≡◌, Option, Some, None, Result, Ok, Err}
-use Rattle.ssi_terms.specs.declared.read_fault.ReadFault.{ReadFault}
-use Rattle.ssi_terms.specs.declared.read_fault.ReadFault.TheVariants.{Later, Memory}
+use Rattle.std.specs.Prelude.{◌≡◌, List, Option, Some, None, Result, Ok, Err, Vec}
+use Rattle.std.specs.declared.alloc.Global.{Global}
+use Rattle.ssi_run.specs.declared.refusal.Refusal.{Refusal}
+use Rattle.ssi_run.specs.declared.refusal.Refusal.TheVariants.{Later, Memory}
 
 -- `Ok` has the value, `Later` says that there is none, and want of memory says nothing
-abbrev pub Finds : {A : Type 0} → Option A → Result A ReadFault → Type 0
+abbrev pub Finds : {A : Type 0} → Option A → Result A Refusal → Type 0
 Finds value (Ok found) = value ≡ Some found
 Finds value (Err Later) = value ≡ None
 Finds value (Err Memory) = Unit {0}
 
--- `Ok` has what is so, `Later` says that nothing is so, and want of memory says nothing
-abbrev pub FindsWhat : {A : Type 0} → (A → Type 0) → Result A ReadFault → Type 0
-FindsWhat P (Ok found) = P found
-FindsWhat {A} P (Err Later) = (a : A) → P a → ⊥
-FindsWhat P (Err Memory) = Unit {0}
+-- the same of a list
+abbrev pub FindsAll : {A : Type 0} → Option (List A) → Result (Vec A Global) Refusal → Type 0
+FindsAll values (Ok found) = values ≡ Some found.items
+FindsAll values (Err Later) = values ≡ None
+FindsAll values (Err Memory) = Unit {0}

@@ -8,7 +8,7 @@ use Rattle.ssi_identities.specs.declared.rule.Cmd.{Cmd}
 use Rattle.ssi_identities.specs.declared.rule.BodyItem.{BodyItem}
 use Rattle.ssi_identities.specs.declared.rule.BodyItem.TheVariants as b
 use Rattle.ssi_identities.specs.declared.rule.Body.{Body}
-use Rattle.ssi_identities.specs.declared.data_set.DataSet.{DataSet}
+use Rattle.ssi_identities.specs.DataSets.{Plan}
 use Rattle.ssi_identities.specs.declared.data_set.RequestRow.{RequestRow}
 use Rattle.ssi_identities.specs.NameLists.{number_of}
 use Rattle.ssi_terms.specs.declared.tree.Spot.{Spot}
@@ -19,11 +19,15 @@ use Rattle.ssi_terms.specs.declared.tree.CondTree.{CondTree, fold-CondTree}
 use Rattle.ssi_terms.specs.declared.tree.PartTree.{PartTree, fold-PartTree}
 use Rattle.ssi_terms.specs.declared.tree.PartTree.TheOpen.{PartTree-F, BodyTree-F}
 use Rattle.ssi_terms.specs.declared.tree.BodyTree.{BodyTree, fold-BodyTree}
-use Rattle.ssi_terms.specs.declared.tree.FirstTree.{FirstTree}
+use Rattle.ssi_terms.specs.Trees.{FirstFiles}
+
+-- so many bytes of the text from one on
+abbrev pub characters_at : List ℕ → ℕ → ℕ → List ℕ
+characters_at text start len = take len (drop start text)
 
 -- the characters of a name or a word
 abbrev pub characters : List ℕ → Spot → List ℕ
-characters text spot = take spot.len (drop spot.start text)
+characters text spot = characters_at text spot.start spot.len
 
 -- whether a name can be declared after these: it is new, and within the limit
 abbrev pub is_new : ℕ → List (List ℕ) → List ℕ → Bool
@@ -96,28 +100,29 @@ module _ (text : List ℕ) (flags : List (List ℕ)) where
   row_of request = option_map (λ body. record { name = characters text request.0; body = body }) (body_of request.1)
 
 -- the names of the flags, and those of the requests
-abbrev pub flag_names : List ℕ → FirstTree → List (List ℕ)
+abbrev pub flag_names : List ℕ → FirstFiles → List (List ℕ)
 flag_names text tree = map (characters text) tree.flags
 
-abbrev pub request_names : List ℕ → FirstTree → List (List ℕ)
+abbrev pub request_names : List ℕ → FirstFiles → List (List ℕ)
 request_names text tree = map (λ request. characters text request.0) tree.requests
 
 -- the names of the flags, where they can be declared
-abbrev pub flags_of : List ℕ → FirstTree → Option (List (List ℕ))
+abbrev pub flags_of : List ℕ → FirstFiles → Option (List (List ℕ))
 flags_of text tree = if are_new 512 [] (flag_names text tree) then Some (flag_names text tree) else None
 
 -- the requests with their bodies, where their names can be declared and their flags are
-abbrev pub rows_of : List ℕ → FirstTree → Option (List RequestRow)
+abbrev pub rows_of : List ℕ → FirstFiles → Option (List RequestRow)
 rows_of text tree = if are_new 1024 [] (request_names text tree) then all_of (map (row_of text (flag_names text tree)) tree.requests) else None
 
-abbrev pub plan_of : Option (List (List ℕ)) → Option (List RequestRow) → Option DataSet
-plan_of (Some flags) (Some requests) = Some (record { flags = flags; requests = requests })
+abbrev pub plan_of : Option (List (List ℕ)) → Option (List RequestRow) → Option Plan
+plan_of (Some flags) (Some requests) =
+    Some (record { points = []; signals = []; tracks = []; routes = []; subs = []; flags = flags; requests = requests })
 plan_of _ _ = None
 
 -- the data set of the tree; none where a name is declared twice, is past a limit, or is used and not declared
-abbrev pub resolved : List ℕ → FirstTree → Option DataSet
+abbrev pub resolved : List ℕ → FirstFiles → Option Plan
 resolved text tree = plan_of (flags_of text tree) (rows_of text tree)
 
--- the names of the requests of a data set
-abbrev pub names_in : List RequestRow → List (List ℕ)
-names_in rows = map (λ row. row.name) rows
+-- the names of requests
+abbrev pub row_names : List RequestRow → List (List ℕ)
+row_names rows = map (λ row. row.name) rows

@@ -1,3 +1,4 @@
+pub mod Statuses
 pub mod Answers
 pub mod Outcomes
 pub mod Words
@@ -5,6 +6,9 @@ pub mod Worlds
 pub mod Traces
 pub mod Inputs
 pub mod Layouts
+pub mod Refusals
 pub mod Findings
 pub mod Scripts
 pub mod ScriptReading
+pub mod StepRules
+pub mod WorkedChanges

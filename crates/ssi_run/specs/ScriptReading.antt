@@ -1,20 +1,12 @@
--- What the readers of steps compute, as functions of the tokens that are left. Proofs go by it; no public
+-- What the reader of a step computes, as a function of the tokens that are left. Proofs go by it; no public
 -- clause cites it, since Scripts says what is read.
-use Rattle.std.specs.Prelude.{ℕ, ◌+◌, ◌-◌, ◌*◌, Bool, ◌==◌, nat_lt, if◌then◌else◌, codes, fold, List, [], ◌∷◌, Option, Some, None, option_map}
+use Rattle.std.specs.Prelude.{ℕ, Bool, true, ◌==◌, nat_lt, if◌then◌else◌, codes, Option, Some, None}
+use Rattle.ssi_lexer.specs.declared.token.TokenKind.TheVariants.{Name}
 use Rattle.ssi_lexer.specs.Lexemes.{Lexeme}
-use Rattle.ssi_terms.specs.Tests.{word, dot}
-use Rattle.ssi_terms.specs.Read.{Parser, mapped, ◌&◌, sees, after_first, pass}
-use Rattle.ssi_run.specs.declared.script.ScriptStep.{ScriptStep}
-use Rattle.ssi_run.specs.declared.script.ScriptStep.TheVariants.{Panel, Cycle}
-use Rattle.ssi_run.specs.Scripts.{number, request_at}
-
--- the number that decimal digits stand for
-abbrev pub value_of_digits : List ℕ → ℕ
-value_of_digits digits = fold (λ value digit. 10 * value + (digit - 48)) 0 digits
-
--- the number that a token is, if it is one
-abbrev pub number_at : Lexeme → Option ℕ
-number_at lexeme = if number (value_of_digits lexeme.text) lexeme then Some (value_of_digits lexeme.text) else None
+use Rattle.ssi_lexer.specs.TokenTests.{of_kind, word, name, dot}
+use Rattle.ssi_lexer.specs.Parsers.{Parser, ◌&◌, mapped, tok, valued, either, number_at}
+use Rattle.ssi_run.specs.declared.script.StepTree.{StepTree}
+use Rattle.ssi_run.specs.declared.script.StepTree.TheVariants.{Panel, Cycle}
 
 abbrev pub only_if : (ℕ → Bool) → Option ℕ → Option ℕ
 only_if test None = None
@@ -28,25 +20,19 @@ panel_at lexeme = only_if (λ n. n == 0) (number_at lexeme)
 abbrev pub count_at : Lexeme → Option ℕ
 count_at lexeme = only_if (nat_lt 0) (number_at lexeme)
 
--- what the first token has, if it has it
-abbrev pub at_first : {A : Type 0} → (Lexeme → Option A) → List Lexeme → Option A
-at_first f [] = None
-at_first f (t ∷ ts) = f t
+unfoldable pub put : Parser StepTree
+put = mapped (λ x. Panel x.1.0 x.1.1.0) (tok (word (codes "panel")) & (valued panel_at & (tok (of_kind Name) & tok dot)))
 
--- a token that has a value
-unfoldable pub valued : {A : Type 0} → (Lexeme → Option A) → Parser A
-valued f [] = None
-valued f (t ∷ ts) = option_map (λ x. (x, ts)) (f t)
+unfoldable pub cycles : Parser StepTree
+cycles = mapped (λ x. Cycle x.1.0) (tok (word (codes "cycle")) & (valued count_at & tok dot))
 
--- past `panel`
-unfoldable pub put : List (List ℕ) → Parser ScriptStep
-put requests = mapped (λ x. Panel x.0 x.1.0) (valued panel_at & (valued (request_at requests) & pass dot))
+unfoldable pub step : Parser StepTree
+step = either (word (codes "panel")) put cycles
 
--- past `cycle`
-unfoldable pub cycles : Parser ScriptStep
-cycles = mapped (λ x. Cycle x.0) (valued count_at & pass dot)
+-- whatever token comes
+abbrev pub any : Lexeme → Bool
+any lexeme = true
 
-unfoldable pub step : List (List ℕ) → Parser ScriptStep
-step requests ts =
-    if sees (word (codes "panel")) ts then put requests (after_first ts)
-    else (if sees (word (codes "cycle")) ts then cycles (after_first ts) else None)
+-- `file RUN`
+unfoldable pub header : Parser (Unit {0})
+header = mapped (λ _. tt) (tok (word (codes "file")) & tok (name (codes "RUN")))

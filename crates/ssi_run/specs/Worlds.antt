@@ -1,18 +1,18 @@
 -- The world of an interlocking, and what an event makes of it.
-use Rattle.std.specs.Prelude.{ℕ, Bool, false, nat_le, if◌then◌else◌, List, [], ◌∷◌, ◌++◌, length, replicate, slice_get, Option, Some, None}
-use Rattle.ssi_identities.specs.declared.data_set.DataSet.{DataSet}
+use Rattle.std.specs.Prelude.{ℕ, Bool, nat_le, if◌then◌else◌, List, [], ◌∷◌, ◌++◌, length, slice_get, Option, Some, None}
 use Rattle.ssi_identities.specs.declared.data_set.RequestRow.{RequestRow}
-use Rattle.ssi_identities.specs.Values.{State}
-use Rattle.ssi_identities.specs.Effects.{effect_of}
+use Rattle.ssi_identities.specs.DataSets.{Plan, counts_of}
+use Rattle.ssi_identities.specs.States.{State, start_of as start_state_of}
+use Rattle.ssi_identities.specs.Steps.{effect_of}
 
 -- a state, and the requests that wait on panel 0, the oldest first
 pub record World : Type 0 where
   pub state : State
   pub waiting : List ℕ
 
--- all flags are reset, and no request waits
-abbrev pub start_of : DataSet → World
-start_of plan = record { state = replicate (length plan.flags) false; waiting = [] }
+-- the state is that at the start, and no request waits
+abbrev pub start_of : Plan → World
+start_of plan = record { state = start_state_of (counts_of plan); waiting = [] }
 
 -- 64 requests wait at most
 abbrev pub is_full : World → Bool
@@ -22,10 +22,10 @@ is_full world = nat_le 64 (length world.waiting)
 abbrev pub with_request : World → ℕ → World
 with_request world request = if is_full world then world else record { state = world.state; waiting = world.waiting ++ request ∷ [] }
 
--- the body of a request acts on a state
-abbrev pub effect_in : Option RequestRow → State → State
-effect_in None state = state
-effect_in (Some row) state = effect_of row.body state
+-- the body of a request acts on a state; there is no report, and none has influence on it
+abbrev pub effect_in : Plan → Option RequestRow → State → State
+effect_in plan None state = state
+effect_in plan (Some row) state = effect_of plan row.body state 0
 
 -- the request that is taken: the oldest, where one waits
 abbrev pub taken_of : List ℕ → Option ℕ
@@ -33,10 +33,10 @@ taken_of [] = None
 taken_of (request ∷ waiting) = Some request
 
 -- the world after one request was taken, and its body has acted
-abbrev pub after_taking : DataSet → State → List ℕ → World
+abbrev pub after_taking : Plan → State → List ℕ → World
 after_taking plan state [] = record { state = state; waiting = [] }
-after_taking plan state (request ∷ waiting) = record { state = effect_in (slice_get plan.requests request) state; waiting = waiting }
+after_taking plan state (request ∷ waiting) = record { state = effect_in plan (slice_get plan.requests request) state; waiting = waiting }
 
 -- one minor cycle
-abbrev pub minor_cycle_of : DataSet → World → World
+abbrev pub minor_cycle_of : Plan → World → World
 minor_cycle_of plan world = after_taking plan world.state world.waiting

@@ -1,61 +1,71 @@
 //! The changed facts of a minor cycle.
 
-ghost use Rattle.std.specs.Prelude.{◌≡◌, ◌++◌, length, codes, None, OnOk};
+ghost use Rattle.std.specs.Prelude.{◌≡◌, ◌<◌, true, false, length, codes, [], None, OnOk};
 ghost use Rattle.ssi_base.specs.Streams.{Writes};
-ghost use Rattle.ssi_run.specs.Traces.{change_of, changes_of, flag_word_of};
+ghost use Rattle.ssi_identities.specs.DataSets.{counts_of};
+ghost use Rattle.ssi_identities.specs.Facts.{IsWithinLimits, fact_count_of};
+ghost use Rattle.ssi_run.specs.Traces.{change_text, changes_of, fact_at, fact_text};
+ghost use Rattle.ssi_run.specs.WorkedChanges.{all_are, mixed, one_of_each};
 
-use crate::pieces::write_three;
+use crate::pieces::write_two;
 use ssi_base::{Failed, Sink};
-use ssi_identities::Name;
+use ssi_identities::{DataSet, FactKind, fact_of};
 
-/// The word for a flag's new value, behind a colon.
-fn value_text(value: bool) -> &'static [u8]
-    ensures { result.now ≡ codes ":" ++ flag_word_of value }
-{
-    if value { b":s" } else { b":xs" }
-}
-
-fn write_change<K: Sink>(sink: &mut K, name: &Name, value: bool) -> Result<(), Failed>
+/// Writes a fact with its value.
+#[tactic(auto, using(ssi_base::proofs::Writing::joins))]
+fn write_fact<K: Sink>(
+    sink: &mut K,
+    plan: &DataSet,
+    kind: FactKind,
+    index: u16,
+    value: bool,
+) -> Result<(), Failed>
     ensures { Writes (K.written sink.old) (K.written sink.new) (K.faults sink.old) (K.faults sink.new)
-        (codes " " ++ name.now ++ (codes ":" ++ flag_word_of value)) result }
+        (fact_text plan.now (record { kind = kind; index = index }) value) result }
 {
-    write_three(sink, b" ", name.bytes(), value_text(value))
+    write_two(sink, b" ", plan.name(kind.identity(), index))?;
+    write_two(sink, b":", kind.word(value))
 }
 
-/// Writes a flag whose value differs from the one shown last, and notes it as shown.
+/// Writes a fact whose value differs from the one shown last, and notes it as shown.
 fn write_if_changed<K: Sink>(
     sink: &mut K,
-    name: &Name,
+    plan: &DataSet,
+    fact: u16,
     shown: &mut bool,
     value: bool,
 ) -> Result<(), Failed>
+    requires limits { IsWithinLimits (counts_of plan.now) }
+    requires within { fact < fact_count_of (counts_of plan.now) }
     ensures noted { OnOk result (shown.new ≡ value) }
     ensures writes { Writes (K.written sink.old) (K.written sink.new) (K.faults sink.old) (K.faults sink.new)
-        (change_of name.now shown.old value) result }
+        (change_text plan.now (fact_at (counts_of plan.now) fact) shown.old value) result }
 {
     if *shown == value {
         return Ok(());
     }
     *shown = value;
-    write_change(sink, name, value)
+    let (kind, index) = fact_of(&plan.counts(), fact);
+    write_fact(sink, plan, kind, index, value)
 }
 
-/// Writes each flag whose value differs from the one shown last, and notes it as shown.
+/// Writes each fact whose value differs from the one shown last, and notes it as shown.
 /// After an error some of them are noted.
 pub fn write_changes<K: Sink>(
     sink: &mut K,
-    flags: &[Name],
+    plan: &DataSet,
     shown: &mut [bool],
     state: &[bool],
 ) -> Result<(), Failed>
-    requires flags { length flags.now ≡ length state.now }
+    requires limits { IsWithinLimits (counts_of plan.now) }
+    requires facts { length state.now ≡ fact_count_of (counts_of plan.now) }
     requires shown { length shown.old ≡ length state.now }
     ensures noted { OnOk result (shown.new ≡ state.now) }
     ensures writes { Writes (K.written sink.old) (K.written sink.new) (K.faults sink.old) (K.faults sink.new)
-        (changes_of flags.now shown.old state.now) result }
+        (changes_of plan.now shown.old state.now) result }
 {
-    for index in 0..state.len() {
-        write_if_changed(sink, &flags[index], &mut shown[index], state[index])?;
+    for fact in 0..state.len() {
+        write_if_changed(sink, plan, fact as u16, &mut shown[fact], state[fact])?;
     }
     Ok(())
 }
@@ -63,20 +73,31 @@ pub fn write_changes<K: Sink>(
 /// Writes the changes of a minor cycle in which this request was taken. Where none was, nothing changed.
 pub fn write_changes_by<K: Sink>(
     sink: &mut K,
+    plan: &DataSet,
     taken: Option<u16>,
-    flags: &[Name],
     shown: &mut [bool],
     state: &[bool],
 ) -> Result<(), Failed>
-    requires flags { length flags.now ≡ length state.now }
+    requires limits { IsWithinLimits (counts_of plan.now) }
+    requires facts { length state.now ≡ fact_count_of (counts_of plan.now) }
     requires shown { length shown.old ≡ length state.now }
     requires idle { taken ≡ None → state.now ≡ shown.old }
     ensures noted { OnOk result (shown.new ≡ state.now) }
     ensures writes { Writes (K.written sink.old) (K.written sink.new) (K.faults sink.old) (K.faults sink.new)
-        (changes_of flags.now shown.old state.now) result }
+        (changes_of plan.now shown.old state.now) result }
 {
     match taken {
-        Some(_) => write_changes(sink, flags, shown, state),
+        Some(_) => write_changes(sink, plan, shown, state),
         None => Ok(()),
     }
 }
+
+/// The changes of one fact of each kind: to true, to false, and of some of them.
+pub fn worked_changes()
+    ensures to_true { changes_of one_of_each (all_are false) (all_are true)
+        ≡ codes " P1:cr P1:dn P1:dr S1:lp T1:o R1:s R1:xa U1:l L1:s" }
+    ensures to_false { changes_of one_of_each (all_are true) (all_are false)
+        ≡ codes " P1:cn P1:xdn P1:xdr S1:xlp T1:c R1:xs R1:a U1:f L1:xs" }
+    ensures some { changes_of one_of_each mixed (all_are true) ≡ codes " P1:cr P1:dr T1:o R1:xa" }
+    ensures none { changes_of one_of_each mixed mixed ≡ [] }
+{}

@@ -1,14 +1,14 @@
 //! The value of conditions and the effect of bodies, in a state that is a plain list of truth values.
 
 ghost use Rattle.std.specs.Prelude.{◌≡◌, slice_set};
-ghost use Rattle.ssi_identities.specs.Values.{value_of};
+ghost use Rattle.ssi_identities.specs.Values.{value_of, scene_of};
 ghost use Rattle.ssi_identities.specs.Values as spec;
-ghost use Rattle.ssi_identities.specs.Effects.{effect_of, item_effect};
+ghost use Rattle.ssi_identities.specs.Steps.{effect_of, item_effect_of};
 
-use ssi_identities::{Body, BodyItem, Cond, CondItem};
+use ssi_identities::{Body, BodyItem, Cond, CondItem, DataSet};
 
-fn item_holds(item: &CondItem, state: &[bool]) -> bool
-    ensures { result ≡ spec.item_holds state.now item.now }
+fn item_holds(plan: &DataSet, item: &CondItem, state: &[bool], report: u8) -> bool
+    ensures { result ≡ spec.item_holds (scene_of plan.now state.now report) item.now }
 {
     match item {
         CondItem::Lit { fact, wanted } => {
@@ -18,13 +18,13 @@ fn item_holds(item: &CondItem, state: &[bool]) -> bool
     }
 }
 
-fn holds(cond: &Cond, state: &[bool]) -> bool
-    ensures { result ≡ value_of cond.now state.now }
+fn holds(plan: &DataSet, cond: &Cond, state: &[bool], report: u8) -> bool
+    ensures { result ≡ value_of plan.now cond.now state.now report }
 {
     cond.items
         .as_slice()
         .iter()
-        .all(|item| item_holds(item, state))
+        .all(|item| item_holds(plan, item, state, report))
 }
 
 fn set_fact(state: &mut [bool], fact: usize, value: bool)
@@ -37,17 +37,17 @@ fn set_fact(state: &mut [bool], fact: usize, value: bool)
 
 /// Runs a body: its items act one after another, each seeing what those before it did.
 #[cycle(effect)]
-pub fn run_body(body: &Body, state: &mut [bool])
-    ensures { state.new ≡ effect_of body.now state.old }
+pub fn run_body(plan: &DataSet, body: &Body, state: &mut [bool], report: u8)
+    ensures { state.new ≡ effect_of plan.now body.now state.old report }
 {
     for item in body.items.as_slice() {
-        run_item(item, state);
+        run_item(plan, item, state, report);
     }
 }
 
 #[cycle(effect)]
-fn run_item(item: &BodyItem, state: &mut [bool])
-    ensures { state.new ≡ item_effect item.now state.old }
+fn run_item(plan: &DataSet, item: &BodyItem, state: &mut [bool], report: u8)
+    ensures { state.new ≡ item_effect_of plan.now item.now state.old report }
 {
     match item {
         BodyItem::Do(command) => set_fact(state, usize::from(command.fact), command.value),
@@ -56,10 +56,10 @@ fn run_item(item: &BodyItem, state: &mut [bool])
             then_body,
             else_body,
         } => {
-            if holds(guard, state) {
-                run_body(then_body, state);
+            if holds(plan, guard, state, report) {
+                run_body(plan, then_body, state, report);
             } else if let Some(body) = else_body {
-                run_body(body, state);
+                run_body(plan, body, state, report);
             }
         }
     }

@@ -1,18 +1,22 @@
 //! The core of the interlocking: its state and the requests that wait.
 
-ghost use Rattle.std.specs.Prelude.{◌≡◌, ◌∷◌, ◌++◌, ◌<◌, ◌↔◌, false, length, replicate, drop, [], None, IfOk, IsErr, IsTrue};
-ghost use Rattle.ssi_run.specs.Worlds.{effect_in, is_full, minor_cycle_of, taken_of, with_request};
-ghost use Rattle.std.specs.Prelude.{slice_get};
+ghost use Rattle.std.specs.Prelude.{◌≡◌, ◌∷◌, ◌++◌, ◌<◌, ◌↔◌, length, drop, slice_get, [], None, IfOk, IsErr, IsTrue};
+ghost use Rattle.ssi_identities.specs.DataSets.{counts_of};
+ghost use Rattle.ssi_identities.specs.Facts.{IsWithinLimits};
+ghost use Rattle.ssi_run.specs.Worlds.{effect_in, is_full, minor_cycle_of, start_of, taken_of, with_request};
 
 use crate::evaluation::run_body;
 use arrayvec::ArrayVec;
 use ssi_base::OutOfMemory;
-use ssi_identities::DataSet;
+use ssi_identities::{DataSet, start};
 use std::alloc::Global;
 use std::marker::Model;
 
 /// How many requests wait at most.
 const MOST_WAITING: usize = 64;
+
+/// The report byte that bodies of requests see: there is no report, and none has influence on them.
+const NO_REPORT: u8 = 0;
 
 /// As many requests wait as may.
 #[derive(Clone, Copy, Debug, PartialEq, Eq)]
@@ -46,20 +50,21 @@ fn take_oldest(waiting: &mut ArrayVec<u16, MOST_WAITING>) -> Option<u16>
 
 /// Runs the body of a request.
 fn run_request(plan: &DataSet, request: u16, state: &mut [bool])
-    ensures { state.new ≡ effect_in (slice_get plan.now.requests request) state.old }
+    ensures { state.new ≡ effect_in plan.now (slice_get plan.now.requests request) state.old }
 {
     if let Some(row) = plan.requests.get(usize::from(request)) {
-        run_body(&row.body, state);
+        run_body(plan, &row.body, state, NO_REPORT);
     }
 }
 
 impl Interlocking {
-    /// So many flags, all reset, and no request waits.
-    pub fn new(alloc: Global, flags: usize) -> Result<Interlocking, OutOfMemory>
-        ensures { IfOk result (λ core. core ≡ record { state = replicate flags false; waiting = [] }) }
+    /// The interlocking of a data set at its start: no request waits.
+    pub fn new(alloc: Global, plan: &DataSet) -> Result<Interlocking, OutOfMemory>
+        requires { IsWithinLimits (counts_of plan.now) }
+        ensures { IfOk result (λ core. core ≡ start_of plan.now) }
     {
         Ok(Interlocking {
-            state: vec![in alloc; false; flags]?,
+            state: start(alloc, &plan.counts())?,
             waiting: ArrayVec::new(),
         })
     }
@@ -80,7 +85,7 @@ impl Interlocking {
     pub fn minor_cycle(&mut self, plan: &DataSet) -> Option<u16>
         ensures cycle { self.new ≡ minor_cycle_of plan.now self.old }
         ensures taken { result ≡ taken_of self.old.waiting }
-        ensures flags { length self.new.state ≡ length self.old.state }
+        ensures facts { length self.new.state ≡ length self.old.state }
         ensures idle { result ≡ None → self.new.state ≡ self.old.state }
     {
         let taken = take_oldest(&mut self.waiting);
@@ -90,7 +95,7 @@ impl Interlocking {
         taken
     }
 
-    /// The value of each flag.
+    /// The value of each fact, by its number.
     pub fn state(&self) -> &[bool]
         ensures { result.now ≡ self.now.state }
     {

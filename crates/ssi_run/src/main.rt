@@ -6,11 +6,16 @@
 #![tactic(auto)]
 
 mod changes;
+mod command_line;
+#[cfg(test)]
+mod edge_tests;
 mod evaluation;
 mod interlocking;
 mod layout;
+mod output;
 mod pieces;
 mod program;
+mod refusal;
 mod rules;
 mod script;
 mod status;
@@ -19,30 +24,16 @@ mod tests;
 mod trace;
 mod words;
 
+use crate::command_line::command_words;
+use crate::output::end_output;
 use crate::program::ssi_program;
-use crate::status::{NO_MEMORY, SINK_FAULT};
-use ssi_base::{Failed, OutOfMemory, StdSink, StdSource};
-use std::env;
+use crate::status::NO_MEMORY;
+use ssi_base::{StdSink, StdSource};
 use std::io::{self, BufWriter};
 use std::process::ExitCode;
-use std::rt::Env;
-
-/// The words after the program's name. Words that are no text have no known shape, as no words have none.
-fn command_line(rt: &(impl Env + AllocGlobal)) -> Result<Vec<String>, OutOfMemory> {
-    let mut words = Vec::new(rt.alloc());
-    let arguments = match env::args(rt) {
-        Ok(arguments) => arguments,
-        Err(error) if error.kind() == io::ErrorKind::OutOfMemory => return Err(OutOfMemory),
-        Err(_) => return Ok(words),
-    };
-    for word in arguments.skip(1) {
-        words.push(word)?;
-    }
-    Ok(words)
-}
 
 fn main(rt: HostRuntime) -> ExitCode {
-    let Ok(words) = command_line(&rt) else {
+    let Ok(words) = command_words(&rt, rt.alloc()) else {
         return ExitCode::from(NO_MEMORY);
     };
     let Ok(writer) = BufWriter::new(rt.alloc(), io::writer(&rt)) else {
@@ -51,8 +42,6 @@ fn main(rt: HostRuntime) -> ExitCode {
     let mut source = StdSource::new(rt.reader());
     let mut sink = StdSink::new(writer);
     let status = ssi_program(rt.alloc(), words.as_slice(), &mut source, &mut sink);
-    match sink.flush() {
-        Ok(()) => ExitCode::from(status),
-        Err(Failed) => ExitCode::from(SINK_FAULT),
-    }
+    let (_writer, status) = end_output(sink, status);
+    ExitCode::from(status)
 }

@@ -1,24 +1,34 @@
 //! The script: its steps, read from the tokens after the data part.
 
-ghost use Rattle.std.specs.Prelude.{◌≡◌, ◌≤◌, List, length};
+ghost use Rattle.std.specs.Prelude.{◌≡◌, ◌≤◌, List, Err, IfOk};
 ghost use Rattle.ssi_identities.specs.NameLists.{names_of};
 ghost use Rattle.ssi_identities.specs.declared.fact.Kind.TheVariants.{Request};
-ghost use Rattle.ssi_terms.specs.Readers.{GoesOn};
-ghost use Rattle.ssi_terms.specs.Read.{Reads};
-ghost use Rattle.ssi_run.specs.Findings.{FindsWhat};
-ghost use Rattle.ssi_run.specs.Scripts.{AreSteps, IsScript, request_at as request_of_token};
-ghost use Rattle.ssi_run.specs.ScriptReading.{at_first, count_at as count_of_token, number_at, panel_at as panel_of_token, value_of_digits, valued, put as reads_put, cycles as reads_cycles, step as reads_step};
+ghost use Rattle.ssi_lexer.specs.Readings.{GoesOn};
+ghost use Rattle.ssi_lexer.specs.Parsers.{Reads, at_first, number_at, valued};
+ghost use Rattle.ssi_lexer.specs.TokenTests.{of_kind};
+ghost use Rattle.ssi_run.specs.Findings.{Finds};
+ghost use Rattle.ssi_run.specs.Scripts.{AreSteps, IsScript, step_of};
+ghost use Rattle.ssi_run.specs.ScriptReading as spec;
 ghost use Rattle.ssi_run.specs.Traces.{cycles_of as count_of_step};
 ghost use Rattle.ssi_run.specs.declared.script.ScriptStep.{ScriptStep as Step};
 
-use sqlite_items::Items;
+use crate::refusal::Refusal;
+use crate::rules::characters;
 use ssi_identities::{Kind, Names};
-use ssi_lexer::{TextEnd, TokenKind, Tokens};
-use ssi_terms::{ReadFault, eat_word, pass_dot, pass_name, pass_word};
+use ssi_lexer::{Part, Stop, TextEnd, Token, TokenKind, Tokens, Wanted};
 use std::alloc::Global;
 
 /// How many minor cycles a script makes at most.
 const MOST_CYCLES: u32 = 1_000_000;
+
+/// A step as it is written.
+#[derive(Clone, Copy, Debug, PartialEq, Eq)]
+pub enum StepTree {
+    /// A request is put on a panel.
+    Panel { panel: u8, request: Token },
+    /// So many minor cycles are made, at least one.
+    Cycle { count: u32 },
+}
 
 /// A step of a script.
 #[derive(Clone, Copy, Debug, PartialEq, Eq)]
@@ -29,35 +39,17 @@ pub enum ScriptStep {
     Cycle { count: u32 },
 }
 
-/// The number that at most seven digits stand for.
-fn value(digits: &[u8]) -> u32
-    requires { length digits.now ≤ 7 }
-    ensures { result ≡ value_of_digits digits.now }
-{
-    let mut value = 0;
-    for digit in digits {
-        value = 10 * value + u32::from(digit.saturating_sub(b'0'));
-    }
-    value
-}
-
 /// The number that comes next, if one does.
 fn next_number(tokens: &Tokens<'_>) -> Option<u32>
     ensures { result ≡ at_first number_at tokens.now.left }
 {
-    match tokens.first() {
-        Some(token) => match token.kind {
-            TokenKind::Number => Some(value(tokens.first_text())),
-            _ => None,
-        },
-        None => None,
-    }
+    tokens.first_number()
 }
 
 /// Takes the number of panel 0, which must come next.
-#[tactic(auto, unfolding(crate::specs::ScriptReading::valued))]
-fn panel(tokens: &mut Tokens<'_>) -> Result<u8, ReadFault>
-    ensures reads { Reads (valued panel_of_token tokens.old.left) result tokens.new.left }
+#[tactic(auto, unfolding(ssi_lexer::specs::Parsers::valued))]
+fn panel(tokens: &mut Tokens<'_>) -> Result<u8, Stop>
+    ensures reads { Reads (valued spec.panel_at tokens.old.left) result tokens.new.left }
     ensures goes_on { GoesOn tokens.old tokens.new }
 {
     match next_number(tokens) {
@@ -65,14 +57,14 @@ fn panel(tokens: &mut Tokens<'_>) -> Result<u8, ReadFault>
             tokens.skip();
             Ok(0)
         }
-        _ => Err(ReadFault::Later),
+        _ => Err(Stop::Syntax),
     }
 }
 
 /// Takes a number of at least 1, which must come next.
-#[tactic(auto, unfolding(crate::specs::ScriptReading::valued))]
-fn count(tokens: &mut Tokens<'_>) -> Result<u32, ReadFault>
-    ensures reads { Reads (valued count_of_token tokens.old.left) result tokens.new.left }
+#[tactic(auto, unfolding(ssi_lexer::specs::Parsers::valued))]
+fn count(tokens: &mut Tokens<'_>) -> Result<u32, Stop>
+    ensures reads { Reads (valued spec.count_at tokens.old.left) result tokens.new.left }
     ensures goes_on { GoesOn tokens.old tokens.new }
 {
     match next_number(tokens) {
@@ -80,73 +72,74 @@ fn count(tokens: &mut Tokens<'_>) -> Result<u32, ReadFault>
             tokens.skip();
             Ok(number)
         }
-        _ => Err(ReadFault::Later),
+        _ => Err(Stop::Syntax),
     }
 }
 
-/// The declared request whose name comes next, if it does.
-fn next_request(tokens: &Tokens<'_>, names: &Names) -> Option<u16>
-    ensures { result ≡ at_first (request_of_token (names_of names.now Request)) tokens.now.left }
-{
-    match tokens.first() {
-        Some(token) => match token.kind {
-            TokenKind::Name => names.find(Kind::Request, tokens.first_text()),
-            _ => None,
-        },
-        None => None,
-    }
-}
-
-/// Takes the name of a declared request, which must come next.
-#[tactic(auto, unfolding(crate::specs::ScriptReading::valued))]
-fn request(tokens: &mut Tokens<'_>, names: &Names) -> Result<u16, ReadFault>
-    ensures reads { Reads (valued (request_of_token (names_of names.now Request)) tokens.old.left) result tokens.new.left }
+/// Reads a put.
+#[tactic(auto, unfolding(crate::specs::ScriptReading::put, ssi_lexer::specs::Parsers::tok))]
+fn put(tokens: &mut Tokens<'_>) -> Result<StepTree, Stop>
+    ensures reads { Reads (spec.put tokens.old.left) result tokens.new.left }
     ensures goes_on { GoesOn tokens.old tokens.new }
 {
-    match next_request(tokens, names) {
-        Some(number) => {
-            tokens.skip();
-            Ok(number)
-        }
-        None => Err(ReadFault::Later),
-    }
-}
-
-/// Reads a put, past its word.
-#[tactic(auto, unfolding(crate::specs::ScriptReading::put))]
-fn put(tokens: &mut Tokens<'_>, names: &Names) -> Result<ScriptStep, ReadFault>
-    ensures reads { Reads (reads_put (names_of names.now Request) tokens.old.left) result tokens.new.left }
-    ensures goes_on { GoesOn tokens.old tokens.new }
-{
+    tokens.take(Wanted::Word(b"panel"))?;
     let panel = panel(tokens)?;
-    let request = request(tokens, names)?;
-    pass_dot(tokens)?;
-    Ok(ScriptStep::Panel { panel, request })
+    let request = tokens.take(Wanted::Kind(TokenKind::Name))?;
+    tokens.take(Wanted::Kind(TokenKind::Dot))?;
+    Ok(StepTree::Panel { panel, request })
 }
 
-/// Reads a count of minor cycles, past its word.
-#[tactic(auto, unfolding(crate::specs::ScriptReading::cycles))]
-fn cycles(tokens: &mut Tokens<'_>) -> Result<ScriptStep, ReadFault>
-    ensures reads { Reads (reads_cycles tokens.old.left) result tokens.new.left }
+/// Reads a count of minor cycles.
+#[tactic(auto, unfolding(crate::specs::ScriptReading::cycles, ssi_lexer::specs::Parsers::tok))]
+fn cycles(tokens: &mut Tokens<'_>) -> Result<StepTree, Stop>
+    ensures reads { Reads (spec.cycles tokens.old.left) result tokens.new.left }
     ensures goes_on { GoesOn tokens.old tokens.new }
 {
+    tokens.take(Wanted::Word(b"cycle"))?;
     let count = count(tokens)?;
-    pass_dot(tokens)?;
-    Ok(ScriptStep::Cycle { count })
+    tokens.take(Wanted::Kind(TokenKind::Dot))?;
+    Ok(StepTree::Cycle { count })
 }
 
-#[tactic(auto, unfolding(crate::specs::ScriptReading::step))]
-fn step(tokens: &mut Tokens<'_>, names: &Names) -> Result<ScriptStep, ReadFault>
-    ensures reads { Reads (reads_step (names_of names.now Request) tokens.old.left) result tokens.new.left }
-    ensures goes_on { GoesOn tokens.old tokens.new }
+/// A step.
+struct StepEntry;
+
+impl Part for StepEntry {
+    type Tree = StepTree;
+
+    ghost use Rattle.ssi_run.specs.Scripts.{SpellsStep};
+    ghost use Rattle.ssi_run.specs.ScriptReading.{step};
+    ghost use Rattle.ssi_run.specs.StepRules.{good_step};
+
+    ghost language = { λ _. SpellsStep };
+
+    ghost parser = { λ _. step };
+
+    ghost good = { λ _. good_step };
+
+    #[tactic(auto, unfolding(crate::specs::ScriptReading::step, ssi_lexer::specs::Parsers::either))]
+    fn read(&self, _alloc: Global, tokens: &mut Tokens<'_>) -> Result<StepTree, Stop> {
+        if tokens.sees(Wanted::Word(b"panel")) {
+            put(tokens)
+        } else {
+            cycles(tokens)
+        }
+    }
+}
+
+/// The step with the number of the request that it names. `Later` says that no such request is declared.
+fn named(text: &[u8], names: &Names, tree: StepTree) -> Result<ScriptStep, Refusal>
+    ensures { Finds (step_of text.now (names_of names.now Request) tree) result }
 {
-    if eat_word(tokens, b"panel") {
-        return put(tokens, names);
+    match tree {
+        StepTree::Panel { panel, request } => {
+            match names.find(Kind::Request, characters(text, request.start, request.len)) {
+                Some(request) => Ok(ScriptStep::Panel { panel, request }),
+                None => Err(Refusal::Later),
+            }
+        }
+        StepTree::Cycle { count } => Ok(ScriptStep::Cycle { count }),
     }
-    if eat_word(tokens, b"cycle") {
-        return cycles(tokens);
-    }
-    Err(ReadFault::Later)
 }
 
 /// How many minor cycles a step makes.
@@ -159,48 +152,57 @@ fn cycles_of(step: ScriptStep) -> u32
     }
 }
 
-/// Reads steps up to the end of the text.
+/// Reads steps up to the end of the text. `Later` says that the tokens spell none that name declared
+/// requests and make no more minor cycles than may be.
 fn steps(
     alloc: Global,
+    text: &[u8],
     tokens: &mut Tokens<'_>,
     names: &Names,
-) -> Result<Items<ScriptStep>, ReadFault>
-    ensures { FindsWhat (λ (steps : List Step). AreSteps (names_of names.now Request) steps tokens.old.left tokens.old.end) result }
+) -> Result<Vec<ScriptStep>, Refusal>
+    ensures found { IfOk result (λ steps. AreSteps text.now (names_of names.now Request) steps.items tokens.old.left tokens.old.end) }
+    ensures later { result ≡ Err Refusal.Later → (steps : List Step) → ¬ AreSteps text.now (names_of names.now Request) steps tokens.old.left tokens.old.end }
 {
-    let mut steps = Items::new(alloc);
+    let mut steps = Vec::new(alloc);
     let mut cycles = 0;
-    while tokens.first().is_some() {
-        let next = match step(tokens, names) {
-            Ok(next) => next,
-            Err(fault) => return Err(fault),
-        };
+    'steps: while tokens.first().is_some() {
+        let tree = StepEntry.read(alloc, tokens)?;
+        let next = named(text, names, tree)?;
         let more = cycles_of(next);
         if more > MOST_CYCLES - cycles {
-            return Err(ReadFault::Later);
+            return Err(Refusal::Later);
         }
         cycles += more;
         steps.push(next)?;
     }
     match tokens.end() {
         Some(TextEnd::Finished(_)) => Ok(steps),
-        _ => Err(ReadFault::Later),
+        _ => Err(Refusal::Later),
     }
 }
 
+/// Takes `file RUN`.
+#[tactic(auto, unfolding(crate::specs::ScriptReading::header, ssi_lexer::specs::Parsers::tok))]
+fn header(tokens: &mut Tokens<'_>) -> Result<(), Stop>
+    ensures reads { Reads (spec.header tokens.old.left) result tokens.new.left }
+    ensures goes_on { GoesOn tokens.old tokens.new }
+{
+    tokens.take(Wanted::Word(b"file"))?;
+    tokens.take(Wanted::Name(b"RUN"))?;
+    Ok(())
+}
+
 /// Reads `file RUN` and the steps of a script, up to the end of the text. `Later` says that the tokens
-/// spell no script.
+/// are no script.
 pub fn read_script(
     alloc: Global,
+    text: &[u8],
     tokens: &mut Tokens<'_>,
     names: &Names,
-) -> Result<Items<ScriptStep>, ReadFault>
-    ensures { FindsWhat (λ (steps : List Step). IsScript (names_of names.now Request) steps tokens.old.left tokens.old.end) result }
+) -> Result<Vec<ScriptStep>, Refusal>
+    ensures found { IfOk result (λ steps. IsScript text.now (names_of names.now Request) steps.items tokens.old.left tokens.old.end) }
+    ensures later { result ≡ Err Refusal.Later → (steps : List Step) → ¬ IsScript text.now (names_of names.now Request) steps tokens.old.left tokens.old.end }
 {
-    if let Err(fault) = pass_word(tokens, b"file") {
-        return Err(fault);
-    }
-    if let Err(fault) = pass_name(tokens, b"RUN") {
-        return Err(fault);
-    }
-    steps(alloc, tokens, names)
+    header(tokens)?;
+    steps(alloc, text, tokens, names)
 }

@@ -1,6 +1,6 @@
 //! The program over memory: layouts and scripts with the output that the rules give, worked by hand.
 
-use crate::program::{FAULT_LATER, TOO_LARGE, USAGE, ssi_program};
+use crate::program::ssi_program;
 use ssi_base::{MemSink, MemSource};
 use std::alloc::Global;
 use std::test::Fail;
@@ -12,6 +12,15 @@ const EMPTY: &str =
 /// Two flags, and two requests of which the first is guarded by the first flag.
 const FLAGS: &str =
     "file PTS\nfile SIG\nfile TCS\nfile RTE\nfile SUB\nfile FLG\nL1 .\nL2 .\nfile TFM\nfile PRR\nQ1 if L1 s then L2 s end .\nQ2 L1 s .\nfile PFM\nfile FOP\nfile OPT\nfile IPT\n";
+
+/// What is written where the words have no known shape.
+const USAGE: &[u8] = b"usage: ssi check | compile | run [--last n] | exec | yard n\n";
+
+/// What is written for an input of another form.
+const LATER: &[u8] = b"fault later\n";
+
+/// What is written for an input past the limit.
+const TOO_LARGE: &[u8] = b"fault input more than 2097152 bytes\n";
 
 /// Two flags and a request with this body.
 fn layout_with(alloc: Global, body: &str) -> Result<String, Fail> {
@@ -77,10 +86,6 @@ fn bodies_act_item_by_item(rt: HostRuntime) -> Result<(), Fail> {
     let cases = [
         // Later items see earlier effects.
         (
-            "if L1 xs then L1 s, if L1 s then L2 s else L1 xs end end",
-            "fault later\n",
-        ),
-        (
             "if L1 xs then L1 s end, if L1 s then L2 s else L1 xs end",
             "0 - - 0:Q1 L1:s L2:s\n1 - - 0:Q1\n",
         ),
@@ -101,7 +106,8 @@ fn bodies_act_item_by_item(rt: HostRuntime) -> Result<(), Fail> {
     for (body, output) in cases {
         let layout = layout_with(rt.alloc(), body)?;
         let script = "file RUN panel 0 Q1 . panel 0 Q1 . cycle 2 .";
-        let (_, written) = run(rt.alloc(), layout.as_str(), script)?;
+        let (status, written) = run(rt.alloc(), layout.as_str(), script)?;
+        assert_eq!(rt; status, 0, "{body}");
         assert_eq!(rt; written.as_slice(), output.as_bytes(), "{body}");
     }
     Ok(())
@@ -112,6 +118,12 @@ fn other_inputs_are_told_later(rt: HostRuntime) -> Result<(), Fail> {
     let alloc = rt.alloc();
     let twice = layout_with(alloc, "L1 s . Q1 L2 s")?;
     let unknown = layout_with(alloc, "L3 s")?;
+    let nested = layout_with(
+        alloc,
+        "if L1 xs then L1 s, if L1 s then L2 s else L1 xs end end",
+    )?;
+    let two_flags =
+        "file PTS file SIG file TCS file RTE file SUB file FLG L1 . L1 . file TFM file PRR file PFM file FOP file OPT file IPT ";
     let cases = [
         (FLAGS, "file RUN panel 1 Q1 ."),
         (FLAGS, "file RUN panel 0 Q3 ."),
@@ -127,11 +139,13 @@ fn other_inputs_are_told_later(rt: HostRuntime) -> Result<(), Fail> {
         ("file PTS", ""),
         (twice.as_str(), "file RUN cycle 1 ."),
         (unknown.as_str(), "file RUN cycle 1 ."),
+        (nested.as_str(), "file RUN cycle 1 ."),
+        (two_flags, "file RUN cycle 1 ."),
     ];
     for (layout, script) in cases {
         let (status, written) = run(alloc, layout, script)?;
         assert_eq!(rt; status, 1, "{layout}{script}");
-        assert_eq!(rt; written.as_slice(), FAULT_LATER, "{layout}{script}");
+        assert_eq!(rt; written.as_slice(), LATER, "{layout}{script}");
     }
     Ok(())
 }
@@ -146,6 +160,41 @@ fn names_have_sixteen_characters_at_most(rt: HostRuntime) -> Result<(), Fail> {
         )?;
         let (status, _) = run(alloc, layout.as_str(), "")?;
         assert_eq!(rt; status, expected, "{name}");
+    }
+    Ok(())
+}
+
+/// A layout of so many flags and so many requests, each of which sets the first flag.
+fn layout_of(alloc: Global, flags: usize, requests: usize) -> Result<String, Fail> {
+    let mut text = String::from_str(
+        alloc,
+        "file PTS file SIG file TCS file RTE file SUB file FLG ",
+    )?;
+    for flag in 0..flags {
+        text.push_str(format!(in alloc; "L{flag} . ")?.as_str())?;
+    }
+    text.push_str("file TFM file PRR ")?;
+    for request in 0..requests {
+        text.push_str(format!(in alloc; "Q{request} L0 s . ")?.as_str())?;
+    }
+    text.push_str("file PFM file FOP file OPT file IPT ")?;
+    Ok(text)
+}
+
+#[test]
+fn flags_and_requests_at_their_limits(rt: HostRuntime) -> Result<(), Fail> {
+    let alloc = rt.alloc();
+    let script = "file RUN panel 0 Q0 . cycle 1 .";
+    let cases = [
+        (512, 1024, 0, b"0 - - 0:Q0 L0:s\n".as_slice()),
+        (513, 1, 1, LATER),
+        (1, 1025, 1, LATER),
+    ];
+    for (flags, requests, expected, output) in cases {
+        let layout = layout_of(alloc, flags, requests)?;
+        let (status, written) = run(alloc, layout.as_str(), script)?;
+        assert_eq!(rt; status, expected, "{flags} {requests}");
+        assert_eq!(rt; written.as_slice(), output, "{flags} {requests}");
     }
     Ok(())
 }
@@ -215,33 +264,11 @@ fn words_without_a_shape_read_nothing(rt: HostRuntime) -> Result<(), Fail> {
 #[test]
 fn input_past_the_limit(rt: HostRuntime) -> Result<(), Fail> {
     let alloc = rt.alloc();
-    let cases = [(2_097_152, 1, FAULT_LATER), (2_097_153, 9, TOO_LARGE)];
+    let cases = [(2_097_152, 1, LATER), (2_097_153, 9, TOO_LARGE)];
     for (bytes, expected, output) in cases {
         let (status, written) = answer(alloc, &["run"], vec![in alloc; b' '; bytes]?)?;
         assert_eq!(rt; status, expected, "{bytes}");
         assert_eq!(rt; written.as_slice(), output, "{bytes}");
-    }
-    Ok(())
-}
-
-#[test]
-fn failing_source_and_sink(rt: HostRuntime) -> Result<(), Fail> {
-    let alloc = rt.alloc();
-    let input = format!(in alloc; "{FLAGS}file RUN panel 0 Q2 . cycle 1 .")?;
-    // The numbers of the calls that fail: of reads, and of writes.
-    let cases = [
-        (vec![in alloc; 1]?, Vec::new(alloc), 3, 0),
-        (Vec::new(alloc), vec![in alloc; 1]?, 4, 8),
-    ];
-    for (reads, writes, expected, most) in cases {
-        let mut line = Vec::new(alloc);
-        line.push(String::from_str(alloc, "run")?)?;
-        let mut source = MemSource::new(Vec::from_slice(alloc, input.as_bytes())?, 64, reads);
-        let mut sink = MemSink::new(alloc, 1000, 8, writes)?;
-        let status = ssi_program(alloc, line.as_slice(), &mut source, &mut sink);
-        assert_eq!(rt; status, expected);
-        assert!(rt; sink.written().len() <= most);
-        assert!(rt; b"0 - - 0:Q2 L1:s\n".starts_with(sink.written()));
     }
     Ok(())
 }

@@ -1,25 +1,18 @@
 //! The trace: what the steps of a script write, minor cycle by minor cycle.
 
-ghost use Rattle.std.specs.Prelude.{◌≡◌, ◌+◌, ◌<◌, ◌^◌, ◌++◌, codes, length, decimal, slice_get, IfOk, OnOk};
+ghost use Rattle.std.specs.Prelude.{◌≡◌, ◌+◌, ◌<◌, ◌^◌, ◌++◌, codes, length, decimal, IfOk, OnOk};
 ghost use Rattle.ssi_base.specs.Streams.{Writes};
+ghost use Rattle.ssi_identities.specs.DataSets.{counts_of};
+ghost use Rattle.ssi_identities.specs.Facts.{IsWithinLimits, fact_count_of};
 ghost use Rattle.ssi_run.specs.Worlds.{minor_cycle_of, with_request};
-ghost use Rattle.ssi_run.specs.Traces.{Session, after_cycles, after_step, cycles_in, cycles_of, line_of, lines_of, name_in, put_text, step_text, steps_text, taken_text};
+ghost use Rattle.ssi_run.specs.Traces.{Session, after_cycles, after_step, cycles_in, cycles_of, line_of, lines_of, put_text, step_text, steps_text, taken_text};
 
 use crate::changes::write_changes_by;
 use crate::interlocking::{Full, Interlocking};
 use crate::pieces::{write_three, write_two};
 use crate::script::ScriptStep;
 use ssi_base::{Failed, Sink, decimal, write_all};
-use ssi_identities::DataSet;
-
-fn request_name(plan: &DataSet, request: u16) -> &[u8]
-    ensures { result.now ≡ name_in (slice_get plan.now.requests request) }
-{
-    match plan.requests.get(usize::from(request)) {
-        Some(row) => row.name.bytes(),
-        None => &[],
-    }
-}
+use ssi_identities::{DataSet, Kind};
 
 /// Writes the panel and the name of the request that was taken, or a hyphen.
 fn write_taken<K: Sink>(sink: &mut K, plan: &DataSet, taken: Option<u16>) -> Result<(), Failed>
@@ -27,7 +20,7 @@ fn write_taken<K: Sink>(sink: &mut K, plan: &DataSet, taken: Option<u16>) -> Res
         (taken_text plan.now taken) result }
 {
     match taken {
-        Some(request) => write_two(sink, b"0:", request_name(plan, request)),
+        Some(request) => write_two(sink, b"0:", plan.name(Kind::Request, request)),
         None => write_all(sink, b"-"),
     }
 }
@@ -49,10 +42,11 @@ fn write_cycle<K: Sink>(
     shown: &mut [bool],
     number: u64,
 ) -> Result<(), Failed>
-    requires flags { length plan.now.flags ≡ length core.old.state }
+    requires limits { IsWithinLimits (counts_of plan.now) }
+    requires facts { length core.old.state ≡ fact_count_of (counts_of plan.now) }
     requires shown { shown.old ≡ core.old.state }
     ensures cycle { core.new ≡ minor_cycle_of plan.now core.old }
-    ensures flags { length core.new.state ≡ length core.old.state }
+    ensures facts { length core.new.state ≡ length core.old.state }
     ensures noted { OnOk result (shown.new ≡ core.new.state) }
     ensures writes { Writes (K.written sink.old) (K.written sink.new) (K.faults sink.old) (K.faults sink.new)
         (line_of plan.now (record { world = core.old; number = number })) result }
@@ -60,7 +54,7 @@ fn write_cycle<K: Sink>(
     let taken = core.minor_cycle(plan);
     write_number(sink, number)?;
     write_taken(sink, plan, taken)?;
-    write_changes_by(sink, taken, plan.flags.as_slice(), shown, core.state())?;
+    write_changes_by(sink, plan, taken, shown, core.state())?;
     write_all(sink, b"\n")
 }
 
@@ -74,10 +68,11 @@ fn write_cycles<K: Sink>(
     count: u64,
 ) -> Result<(), Failed>
     requires fits { first + count < 2 ^ 64 }
-    requires flags { length plan.now.flags ≡ length core.old.state }
+    requires limits { IsWithinLimits (counts_of plan.now) }
+    requires facts { length core.old.state ≡ fact_count_of (counts_of plan.now) }
     requires shown { shown.old ≡ core.old.state }
     ensures after { OnOk result ((record { world = core.new; number = first + count }) ≡ after_cycles plan.now count (record { world = core.old; number = first })) }
-    ensures flags { length core.new.state ≡ length core.old.state }
+    ensures facts { length core.new.state ≡ length core.old.state }
     ensures noted { OnOk result (shown.new ≡ core.new.state) }
     ensures writes { Writes (K.written sink.old) (K.written sink.new) (K.faults sink.old) (K.faults sink.new)
         (lines_of plan.now count (record { world = core.old; number = first })) result }
@@ -98,11 +93,12 @@ fn write_step<K: Sink>(
     step: ScriptStep,
 ) -> Result<u64, Failed>
     requires fits { number + cycles_of step < 2 ^ 64 }
-    requires flags { length plan.now.flags ≡ length core.old.state }
+    requires limits { IsWithinLimits (counts_of plan.now) }
+    requires facts { length core.old.state ≡ fact_count_of (counts_of plan.now) }
     requires shown { shown.old ≡ core.old.state }
     ensures after { IfOk result (λ now. (record { world = core.new; number = now }) ≡ after_step plan.now step (record { world = core.old; number = number })) }
     ensures made { IfOk result (λ now. now ≡ number + cycles_of step) }
-    ensures flags { length core.new.state ≡ length core.old.state }
+    ensures facts { length core.new.state ≡ length core.old.state }
     ensures noted { OnOk result (shown.new ≡ core.new.state) }
     ensures writes { Writes (K.written sink.old) (K.written sink.new) (K.faults sink.old) (K.faults sink.new)
         (step_text plan.now step (record { world = core.old; number = number })) result }
@@ -133,7 +129,7 @@ fn write_put<K: Sink>(
 {
     match core.put(request) {
         Ok(()) => Ok(()),
-        Err(Full) => write_three(sink, b"full 0 ", request_name(plan, request), b"\n"),
+        Err(Full) => write_three(sink, b"full 0 ", plan.name(Kind::Request, request), b"\n"),
     }
 }
 
@@ -146,7 +142,8 @@ pub fn write_steps<K: Sink>(
     steps: &[ScriptStep],
 ) -> Result<(), Failed>
     requires fits { cycles_in steps.now < 2 ^ 64 }
-    requires flags { length plan.now.flags ≡ length core.old.state }
+    requires limits { IsWithinLimits (counts_of plan.now) }
+    requires facts { length core.old.state ≡ fact_count_of (counts_of plan.now) }
     requires shown { shown.old ≡ core.old.state }
     ensures { Writes (K.written sink.old) (K.written sink.new) (K.faults sink.old) (K.faults sink.new)
         (steps_text plan.now steps.now (record { world = core.old; number = 0 })) result }

@@ -1,5 +1,1 @@
-pub mod Laws
-pub mod Marks
-pub mod BodyLaws
-pub mod FileLaws
-pub mod Turns
+pub mod FirstFiles

@@ -1,4 +1,5 @@
+pub mod Trees
 pub mod Tests
 pub mod Grammar
-pub mod Readers
 pub mod Read
+pub mod Rules

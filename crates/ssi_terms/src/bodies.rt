@@ -1,98 +1,131 @@
 //! Reads bodies.
 
-ghost use Rattle.std.specs.Prelude.{◌≡◌};
-ghost use Rattle.ssi_terms.specs.Readers.{GoesOn};
+ghost use Rattle.std.specs.Prelude.{◌≡◌, codes};
+ghost use Rattle.ssi_lexer.specs.Parsers.{Reads, maybe};
+ghost use Rattle.ssi_lexer.specs.Readings.{GoesOn};
+ghost use Rattle.ssi_lexer.specs.TokenTests.{word};
 ghost use Rattle.ssi_terms.specs.Read as spec;
-ghost use Rattle.ssi_terms.specs.Read.{Reads};
 
-use crate::conditions::items;
-use crate::exact::exact;
-use crate::next_token::{eat_comma, eat_word, flag_name, flag_word, pass_word};
-use crate::read_fault::ReadFault;
+use crate::conditions::Item;
+use crate::spots::{flag_word, identity, token};
 use crate::tree::{BodyTree, CommandTree, CondTree, PartTree};
 use sqlite_items::Items;
-use ssi_lexer::Tokens;
+use ssi_lexer::{Part, Stop, Tokens, Wanted, separated};
 use std::alloc::Global;
 
-/// A flag's name and the word for its new value.
-#[tactic(auto, unfolding(crate::specs::Read::command, crate::specs::Read::command_part))]
-fn command(tokens: &mut Tokens<'_>) -> Result<PartTree, ReadFault>
-    ensures reads { Reads (spec.command_part tokens.old.left) result tokens.new.left }
-    ensures goes_on { GoesOn tokens.old tokens.new }
-{
-    let name = flag_name(tokens)?;
-    let word = flag_word(tokens)?;
-    Ok(PartTree::Do(CommandTree { name, word }))
+/// A command: a flag's name and the word for its new value.
+pub struct Command;
+
+impl Part for Command {
+    type Tree = PartTree;
+
+    ghost use Rattle.ssi_terms.specs.Grammar.{SpellsCommand};
+    ghost use Rattle.ssi_terms.specs.Read.{command};
+    ghost use Rattle.ssi_terms.specs.Rules.{good_command};
+
+    ghost language = { λ _. SpellsCommand };
+
+    ghost parser = { λ _. command };
+
+    ghost good = { λ _. good_command };
+
+    #[tactic(auto, unfolding(crate::specs::Read::command))]
+    fn read(&self, _alloc: Global, tokens: &mut Tokens<'_>) -> Result<PartTree, Stop> {
+        let name = identity(tokens, b"L")?;
+        let word = flag_word(tokens)?;
+        Ok(PartTree::Do(CommandTree { name, word }))
+    }
 }
 
-/// Commands, with `,` between.
-#[tactic(auto, unfolding(crate::specs::Read::commands, crate::specs::Read::separated))]
-fn commands(alloc: Global, tokens: &mut Tokens<'_>) -> Result<Items<PartTree>, ReadFault>
+/// A command or a choice.
+pub struct BodyPart;
+
+impl Part for BodyPart {
+    type Tree = PartTree;
+
+    ghost use Rattle.ssi_terms.specs.Grammar.{SpellsPart};
+    ghost use Rattle.ssi_terms.specs.Read.{part};
+    ghost use Rattle.ssi_terms.specs.Rules.{good_part};
+
+    ghost language = { λ _. SpellsPart };
+
+    ghost parser = { λ _. part };
+
+    ghost good = { λ _. good_part };
+
+    #[tactic(auto, unfolding(crate::specs::Read::part, ssi_lexer::specs::Parsers::either))]
+    fn read(&self, alloc: Global, tokens: &mut Tokens<'_>) -> Result<PartTree, Stop> {
+        if tokens.sees(Wanted::Word(b"if")) {
+            choice(alloc, tokens)
+        } else {
+            Command.read(alloc, tokens)
+        }
+    }
+}
+
+/// Reads commands, with `,` between.
+#[tactic(auto, unfolding(crate::specs::Read::commands))]
+fn commands(alloc: Global, tokens: &mut Tokens<'_>) -> Result<BodyTree, Stop>
     ensures reads { Reads (spec.commands tokens.old.left) result tokens.new.left }
     ensures goes_on { GoesOn tokens.old tokens.new }
 {
-    let mut parts = Items::new(alloc);
-    parts.push(command(tokens)?)?;
-    while eat_comma(tokens) {
-        parts.push(command(tokens)?)?;
-    }
-    Ok(parts)
+    let parts = separated(&Command, alloc, tokens)?;
+    Ok(BodyTree {
+        parts: Items::from_vec(parts),
+    })
 }
 
-/// The commands behind `else`, if it comes.
-#[tactic(auto, unfolding(crate::specs::Read::otherwise, crate::specs::Read::maybe))]
-fn otherwise(alloc: Global, tokens: &mut Tokens<'_>) -> Result<Option<BodyTree>, ReadFault>
+/// Reads `else` and the commands behind it.
+#[tactic(auto, unfolding(crate::specs::Read::otherwise))]
+fn otherwise(alloc: Global, tokens: &mut Tokens<'_>) -> Result<BodyTree, Stop>
     ensures reads { Reads (spec.otherwise tokens.old.left) result tokens.new.left }
     ensures goes_on { GoesOn tokens.old tokens.new }
 {
-    if !eat_word(tokens, b"else") {
-        return Ok(None);
-    }
-    let parts = exact(alloc, commands(alloc, tokens)?)?;
-    Ok(Some(BodyTree { parts }))
+    token(tokens, Wanted::Word(b"else"))?;
+    commands(alloc, tokens)
 }
 
-/// A choice, past its `if`.
+/// Reads `else` and the commands behind it, if it comes.
+#[tactic(auto, unfolding(ssi_lexer::specs::Parsers::maybe))]
+fn maybe_otherwise(alloc: Global, tokens: &mut Tokens<'_>) -> Result<Option<BodyTree>, Stop>
+    ensures reads { Reads (maybe (word (codes "else")) spec.otherwise tokens.old.left) result tokens.new.left }
+    ensures goes_on { GoesOn tokens.old tokens.new }
+{
+    if !tokens.sees(Wanted::Word(b"else")) {
+        return Ok(None);
+    }
+    Ok(Some(otherwise(alloc, tokens)?))
+}
+
+/// Reads a choice.
 #[tactic(auto, unfolding(crate::specs::Read::choice))]
-fn choice(alloc: Global, tokens: &mut Tokens<'_>) -> Result<PartTree, ReadFault>
+fn choice(alloc: Global, tokens: &mut Tokens<'_>) -> Result<PartTree, Stop>
     ensures reads { Reads (spec.choice tokens.old.left) result tokens.new.left }
     ensures goes_on { GoesOn tokens.old tokens.new }
 {
-    let items = exact(alloc, items(alloc, tokens)?)?;
-    pass_word(tokens, b"then")?;
-    let parts = exact(alloc, commands(alloc, tokens)?)?;
-    let else_body = otherwise(alloc, tokens)?;
-    pass_word(tokens, b"end")?;
+    token(tokens, Wanted::Word(b"if"))?;
+    let items = separated(&Item, alloc, tokens)?;
+    token(tokens, Wanted::Word(b"then"))?;
+    let then_body = commands(alloc, tokens)?;
+    let else_body = maybe_otherwise(alloc, tokens)?;
+    token(tokens, Wanted::Word(b"end"))?;
     Ok(PartTree::If {
-        guard: CondTree { items },
-        then_body: BodyTree { parts },
+        guard: CondTree {
+            items: Items::from_vec(items),
+        },
+        then_body,
         else_body,
     })
 }
 
-/// A command or a choice.
-#[tactic(auto, unfolding(crate::specs::Read::part))]
-fn part(alloc: Global, tokens: &mut Tokens<'_>) -> Result<PartTree, ReadFault>
-    ensures reads { Reads (spec.part tokens.old.left) result tokens.new.left }
+/// Reads the parts of a body, with `,` between.
+#[tactic(auto, unfolding(crate::specs::Read::body))]
+pub fn body(alloc: Global, tokens: &mut Tokens<'_>) -> Result<BodyTree, Stop>
+    ensures reads { Reads (spec.body tokens.old.left) result tokens.new.left }
     ensures goes_on { GoesOn tokens.old tokens.new }
 {
-    if eat_word(tokens, b"if") {
-        choice(alloc, tokens)
-    } else {
-        command(tokens)
-    }
-}
-
-/// The parts of a body, with `,` between.
-#[tactic(auto, unfolding(crate::specs::Read::parts, crate::specs::Read::separated))]
-pub fn parts(alloc: Global, tokens: &mut Tokens<'_>) -> Result<Items<PartTree>, ReadFault>
-    ensures reads { Reads (spec.parts tokens.old.left) result tokens.new.left }
-    ensures goes_on { GoesOn tokens.old tokens.new }
-{
-    let mut parts = Items::new(alloc);
-    parts.push(part(alloc, tokens)?)?;
-    while eat_comma(tokens) {
-        parts.push(part(alloc, tokens)?)?;
-    }
-    Ok(parts)
+    let parts = separated(&BodyPart, alloc, tokens)?;
+    Ok(BodyTree {
+        parts: Items::from_vec(parts),
+    })
 }

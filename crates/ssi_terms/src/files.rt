@@ -1,73 +1,109 @@
 //! Reads headers of files, and entries.
 
 ghost use Rattle.std.specs.Prelude.{◌≡◌};
-ghost use Rattle.ssi_terms.specs.Readers.{GoesOn};
+ghost use Rattle.ssi_lexer.specs.Parsers.{Reads};
+ghost use Rattle.ssi_lexer.specs.Readings.{GoesOn};
 ghost use Rattle.ssi_terms.specs.Read as spec;
-ghost use Rattle.ssi_terms.specs.Read.{Reads};
 
-use crate::bodies::parts;
-use crate::exact::exact;
-use crate::next_token::{eat_identity, pass_dot, pass_name, pass_word};
-use crate::read_fault::ReadFault;
+use crate::bodies::body;
+use crate::spots::{dot, identity, token};
 use crate::tree::{BodyTree, Spot};
-use sqlite_items::Items;
-use ssi_lexer::Tokens;
+use ssi_lexer::{Entry, Part, Stop, Tokens, Wanted};
 use std::alloc::Global;
 
-/// The headers of these files, one after another.
-#[tactic(auto, unfolding(crate::specs::Read::headers, crate::specs::Read::header))]
-pub fn headers(tokens: &mut Tokens<'_>, files: &[[u8; 3]]) -> Result<(), ReadFault>
+/// An entry of FLG: a flag's name and `.`.
+pub struct FlagEntry;
+
+impl Part for FlagEntry {
+    type Tree = Spot;
+
+    ghost use Rattle.ssi_terms.specs.Grammar.{SpellsFlag};
+    ghost use Rattle.ssi_terms.specs.Read.{flag_entry};
+    ghost use Rattle.ssi_terms.specs.Rules.{good_flag_entry};
+
+    ghost language = { λ _. SpellsFlag };
+
+    ghost parser = { λ _. flag_entry };
+
+    ghost good = { λ _. good_flag_entry };
+
+    #[tactic(auto, unfolding(crate::specs::Read::flag_entry))]
+    fn read(&self, _alloc: Global, tokens: &mut Tokens<'_>) -> Result<Spot, Stop> {
+        let name = identity(tokens, b"L")?;
+        dot(tokens)?;
+        Ok(name)
+    }
+}
+
+impl Entry for FlagEntry {
+    ghost use Rattle.ssi_terms.specs.Tests.{flag};
+    ghost use Rattle.ssi_terms.specs.Rules.{flag_starts};
+
+    ghost opens = { λ _. flag };
+
+    ghost starts = { λ _. flag_starts };
+
+    fn begins(&self, tokens: &Tokens<'_>) -> bool {
+        tokens.sees(Wanted::Identity(b"L"))
+    }
+}
+
+/// An entry of PRR: a request's name, its body and `.`.
+pub struct RequestEntry;
+
+impl Part for RequestEntry {
+    type Tree = (Spot, BodyTree);
+
+    ghost use Rattle.ssi_terms.specs.Grammar.{SpellsRequest};
+    ghost use Rattle.ssi_terms.specs.Read.{request_entry};
+    ghost use Rattle.ssi_terms.specs.Rules.{good_request_entry};
+
+    ghost language = { λ _. SpellsRequest };
+
+    ghost parser = { λ _. request_entry };
+
+    ghost good = { λ _. good_request_entry };
+
+    #[tactic(auto, unfolding(crate::specs::Read::request_entry))]
+    fn read(&self, alloc: Global, tokens: &mut Tokens<'_>) -> Result<(Spot, BodyTree), Stop> {
+        let name = identity(tokens, b"Q")?;
+        let body = body(alloc, tokens)?;
+        dot(tokens)?;
+        Ok((name, body))
+    }
+}
+
+impl Entry for RequestEntry {
+    ghost use Rattle.ssi_terms.specs.Tests.{request};
+    ghost use Rattle.ssi_terms.specs.Rules.{request_starts};
+
+    ghost opens = { λ _. request };
+
+    ghost starts = { λ _. request_starts };
+
+    fn begins(&self, tokens: &Tokens<'_>) -> bool {
+        tokens.sees(Wanted::Identity(b"Q"))
+    }
+}
+
+/// Reads a header: `file` and this name.
+#[tactic(auto, unfolding(crate::specs::Read::header))]
+fn header(tokens: &mut Tokens<'_>, file: &[u8]) -> Result<(), Stop>
+    ensures reads { Reads (spec.header file.now tokens.old.left) result tokens.new.left }
+    ensures goes_on { GoesOn tokens.old tokens.new }
+{
+    token(tokens, Wanted::Word(b"file"))?;
+    token(tokens, Wanted::Name(file))?;
+    Ok(())
+}
+
+/// Reads the headers of these files, one after another.
+pub fn headers(tokens: &mut Tokens<'_>, files: &[[u8; 3]]) -> Result<(), Stop>
     ensures reads { Reads (spec.headers files.now tokens.old.left) result tokens.new.left }
     ensures goes_on { GoesOn tokens.old tokens.new }
 {
     for file in files {
-        pass_word(tokens, b"file")?;
-        pass_name(tokens, file)?;
+        header(tokens, file)?;
     }
     Ok(())
-}
-
-/// The entries of FLG: flags, each with its `.`.
-#[tactic(auto, unfolding(crate::specs::Read::flags, crate::specs::Read::flag_rest))]
-pub fn flags(alloc: Global, tokens: &mut Tokens<'_>) -> Result<Items<Spot>, ReadFault>
-    ensures reads { Reads (spec.flags tokens.old.left) result tokens.new.left }
-    ensures goes_on { GoesOn tokens.old tokens.new }
-{
-    let mut flags = Items::new(alloc);
-    while let Some(name) = eat_identity(tokens, b'L') {
-        pass_dot(tokens)?;
-        flags.push(name)?;
-    }
-    Ok(flags)
-}
-
-/// The rest of an entry of PRR, past the request's name.
-#[tactic(auto, unfolding(crate::specs::Read::request_rest))]
-fn request_rest(
-    alloc: Global,
-    tokens: &mut Tokens<'_>,
-    name: Spot,
-) -> Result<(Spot, BodyTree), ReadFault>
-    ensures reads { Reads (spec.request_rest name tokens.old.left) result tokens.new.left }
-    ensures goes_on { GoesOn tokens.old tokens.new }
-{
-    let parts = exact(alloc, parts(alloc, tokens)?)?;
-    pass_dot(tokens)?;
-    Ok((name, BodyTree { parts }))
-}
-
-/// The entries of PRR: requests, each with its body and its `.`.
-#[tactic(auto, unfolding(crate::specs::Read::requests))]
-pub fn requests(
-    alloc: Global,
-    tokens: &mut Tokens<'_>,
-) -> Result<Items<(Spot, BodyTree)>, ReadFault>
-    ensures reads { Reads (spec.requests tokens.old.left) result tokens.new.left }
-    ensures goes_on { GoesOn tokens.old tokens.new }
-{
-    let mut requests = Items::new(alloc);
-    while let Some(name) = eat_identity(tokens, b'Q') {
-        requests.push(request_rest(alloc, tokens, name)?)?;
-    }
-    Ok(requests)
 }

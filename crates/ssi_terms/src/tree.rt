@@ -3,6 +3,8 @@
 
 use sqlite_items::Items;
 use ssi_base::Place;
+use ssi_lexer::Token;
+use std::marker::Model;
 
 /// A name, word or number of the text.
 #[derive(Clone, Copy, Debug, PartialEq, Eq)]
@@ -15,6 +17,24 @@ pub struct Spot {
     pub token: u32,
     /// The place of its first byte.
     pub place: Place,
+}
+
+impl Spot {
+    ghost use Rattle.std.specs.Prelude.{◌≡◌, ◌<◌};
+    ghost use Rattle.ssi_terms.specs.Tests.{spot_at};
+
+    /// Where a token of less than 256 bytes stands.
+    pub fn at(token: Token) -> Spot
+        requires { token.len < 256 }
+        ensures { result ≡ spot_at token }
+    {
+        Spot {
+            start: token.start,
+            len: token.len as u8,
+            token: token.number,
+            place: token.place,
+        }
+    }
 }
 
 /// A command: an identity and the word for its new value.
@@ -67,6 +87,19 @@ pub struct BodyTree {
 /// Twelve files with entries under FLG and PRR alone: the flags, and each request with its body.
 #[derive(Drop)]
 pub struct FirstTree {
-    pub flags: Items<Spot>,
-    pub requests: Items<(Spot, BodyTree)>,
+    pub flags: Vec<Spot>,
+    pub requests: Vec<(Spot, BodyTree)>,
+}
+
+impl Model for FirstTree {
+    ghost use Rattle.std.specs.Coded.{codes};
+    ghost use Rattle.ssi_terms.specs.Trees.{FirstFiles};
+    ghost use Rattle.ssi_terms.specs.contracts.tree.ItemTree as item_tree;
+    ghost use Rattle.ssi_terms.specs.contracts.tree.PartTree as part_tree;
+
+    ghost Value = { FirstFiles };
+
+    ghost coded = { Prim.hlevel (codes, item_tree.the_row.coded, part_tree.the_row.coded) };
+
+    ghost view = { λ tree. record { flags = tree.flags.items; requests = tree.requests.items } };
 }

@@ -3,13 +3,13 @@ use Rattle.std.proofs.Common.{◌≡◌, ℕ, ◌+◌, ◌/◌, ◌%◌, ◌<◌
 use Rattle.std.proofs.lemmas.List.{map-set, get_or-map}
 use Rattle.ssi_trackside.specs.Module.{ModuleState, fresh}
 use Rattle.ssi_trackside.specs.Shelf.{IsShelf, module_at, place_of}
-use Rattle.ssi_trackside.specs.declared.kinds.TheConstants.{POINTS}
+use Rattle.ssi_trackside.specs.Kinds.{points_kind}
 
 -- the state of the member that is read from a place
 pub read_at : {X : Type 0} (state : X → ModuleState) (xs : List X) (i : ℕ) (read : X)
     → i < length xs → read ≡ get_or xs i read → state read ≡ module_at (map state xs) i
 read_at state xs i read within is_read =
-    ap state is_read ∙ sym (get_or-map state xs i read (fresh POINTS) within)
+    ap state is_read ∙ sym (get_or-map state xs i read (fresh points_kind) within)
 
 -- a member is replaced by one whose state is a change of its own: so is the list of states
 pub changed_at : {X : Type 0} (state : X → ModuleState) (change : ModuleState → ModuleState) (xs : List X) (i : ℕ) (old new : X)

@@ -1,3 +1,4 @@
+pub mod Kinds
 pub mod Module
 pub mod Points
 pub mod Shelf

@@ -2,11 +2,11 @@
 use Rattle.std.specs.Prelude.{ℕ, ◌+◌, ◌-◌, ◌*◌, ◌/◌, ◌%◌, ◌^◌, Bool, true, false, not, ◌&&◌, ◌||◌, ◌==◌, nat_lt, Option, Some, None, if◌then◌else◌, bit_and, bit_or}
 use Rattle.ssi_trackside.specs.declared.events.Event.{Event}
 use Rattle.ssi_trackside.specs.declared.events.Event.TheVariants.{Occupy, Clear, Fail, Mend, Jam, Unjam, Dead, Live}
-use Rattle.ssi_trackside.specs.declared.kinds.TheConstants.{POINTS, SIGNAL, TRACK}
+use Rattle.ssi_trackside.specs.Kinds.{points_kind, signal_kind, track_kind}
 
 -- the state of a module
 pub record ModuleState : Type 0 where
-  -- POINTS, SIGNAL or TRACK
+  -- points_kind, signal_kind or track_kind
   pub kind : ℕ
   -- a dead module takes no commands and gives no reports
   pub dead : Bool
@@ -76,7 +76,7 @@ after_drive normal reverse machine =
 -- nothing else takes commands
 abbrev pub after_command : ModuleState → ℕ → ModuleState
 after_command m value =
-    if m.dead || not (m.kind == POINTS)
+    if m.dead || not (m.kind == points_kind)
     then m
     else let a = after_drive (has_bit value 0) (has_bit value 1) (machine_a m) in
     let b = after_drive (has_bit value 2) (has_bit value 3) (machine_b m) in
@@ -92,7 +92,7 @@ detection_of machine =
 -- that haven't failed, a track its inputs that aren't occupied
 abbrev pub reported_bits : ModuleState → ℕ
 reported_bits m =
-    if m.kind == POINTS
+    if m.kind == points_kind
     then detection_of (machine_a m) + 4 * detection_of (machine_b m)
     else 255 - m.bits
 
@@ -102,7 +102,7 @@ report_of m = if m.dead then None else Some (reported_bits m)
 
 -- how many pins a module of a kind has
 abbrev pub pins_of : ℕ → ℕ
-pins_of kind = if kind == POINTS then 2 else 8
+pins_of kind = if kind == points_kind then 2 else 8
 
 -- a module after an event at a pin that concerns one kind alone
 abbrev pub after_pin : ℕ → ModuleState → ℕ → Bool → ModuleState
@@ -113,11 +113,11 @@ after_pin kind m pin on =
 
 -- a module after an event
 abbrev pub after_event : ModuleState → Event → ModuleState
-after_event m (Occupy pin) = after_pin TRACK m pin true
-after_event m (Clear pin) = after_pin TRACK m pin false
-after_event m (Fail pin) = after_pin SIGNAL m pin true
-after_event m (Mend pin) = after_pin SIGNAL m pin false
-after_event m (Jam pin) = after_pin POINTS m pin true
-after_event m (Unjam pin) = after_pin POINTS m pin false
+after_event m (Occupy pin) = after_pin track_kind m pin true
+after_event m (Clear pin) = after_pin track_kind m pin false
+after_event m (Fail pin) = after_pin signal_kind m pin true
+after_event m (Mend pin) = after_pin signal_kind m pin false
+after_event m (Jam pin) = after_pin points_kind m pin true
+after_event m (Unjam pin) = after_pin points_kind m pin false
 after_event m Dead = record m { dead = true }
 after_event m Live = record m { dead = false }

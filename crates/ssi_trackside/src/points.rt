@@ -1,6 +1,6 @@
 ghost use Rattle.std.specs.Prelude.{◌≡◌};
 ghost use Rattle.ssi_trackside.specs.Module.{fresh};
-ghost use Rattle.ssi_trackside.specs.declared.kinds.TheConstants.{POINTS};
+ghost use Rattle.ssi_trackside.specs.Kinds.{points_kind};
 
 use crate::Trackside;
 use crate::events::Event;
@@ -29,7 +29,7 @@ impl Model for PointsModule {
 impl PointsModule {
     /// Fresh points: alive, with both machines detected normal.
     pub fn new() -> Self
-        ensures { result ≡ fresh POINTS }
+        ensures { result ≡ fresh points_kind }
     {
         PointsModule {
             dead: false,

@@ -1,6 +1,6 @@
 ghost use Rattle.std.specs.Prelude.{◌≡◌};
 ghost use Rattle.ssi_trackside.specs.Module.{fresh};
-ghost use Rattle.ssi_trackside.specs.declared.kinds.TheConstants.{SIGNAL};
+ghost use Rattle.ssi_trackside.specs.Kinds.{signal_kind};
 
 use crate::Trackside;
 use crate::events::Event;
@@ -18,17 +18,17 @@ pub struct SignalModule {
 impl Model for SignalModule {
     ghost use Rattle.std.specs.Prelude.{false};
     ghost use Rattle.ssi_trackside.specs.Module.{ModuleState, fresh};
-    ghost use Rattle.ssi_trackside.specs.declared.kinds.TheConstants.{SIGNAL};
+    ghost use Rattle.ssi_trackside.specs.Kinds.{signal_kind};
 
     ghost Value = { ModuleState };
 
-    ghost view = { λ m. record (fresh SIGNAL) { dead = m.dead; bits = m.failed } };
+    ghost view = { λ m. record (fresh signal_kind) { dead = m.dead; bits = m.failed } };
 }
 
 impl SignalModule {
     /// A fresh signal: alive, with all lamps in order.
     pub fn new() -> Self
-        ensures { result ≡ fresh SIGNAL }
+        ensures { result ≡ fresh signal_kind }
     {
         SignalModule {
             dead: false,

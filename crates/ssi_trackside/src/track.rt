@@ -1,6 +1,6 @@
 ghost use Rattle.std.specs.Prelude.{◌≡◌};
 ghost use Rattle.ssi_trackside.specs.Module.{fresh};
-ghost use Rattle.ssi_trackside.specs.declared.kinds.TheConstants.{TRACK};
+ghost use Rattle.ssi_trackside.specs.Kinds.{track_kind};
 
 use crate::Trackside;
 use crate::events::Event;
@@ -18,17 +18,17 @@ pub struct TrackModule {
 impl Model for TrackModule {
     ghost use Rattle.std.specs.Prelude.{false};
     ghost use Rattle.ssi_trackside.specs.Module.{ModuleState, fresh};
-    ghost use Rattle.ssi_trackside.specs.declared.kinds.TheConstants.{TRACK};
+    ghost use Rattle.ssi_trackside.specs.Kinds.{track_kind};
 
     ghost Value = { ModuleState };
 
-    ghost view = { λ m. record (fresh TRACK) { dead = m.dead; bits = m.occupied } };
+    ghost view = { λ m. record (fresh track_kind) { dead = m.dead; bits = m.occupied } };
 }
 
 impl TrackModule {
     /// A fresh track module: alive, with no input occupied.
     pub fn new() -> Self
-        ensures { result ≡ fresh TRACK }
+        ensures { result ≡ fresh track_kind }
     {
         TrackModule {
             dead: false,

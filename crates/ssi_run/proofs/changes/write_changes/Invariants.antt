@@ -1,11 +1,14 @@
 use Rattle.std.proofs.Common.{◌≡◌, ◌++◌, take, drop}
-use Rattle.ssi_run.specs.Traces.{changes_of}
+use Rattle.std.specs.List.{flat_map}
+use Rattle.ssi_identities.specs.DataSets.{counts_of}
+use Rattle.ssi_identities.specs.Facts.{facts_of}
+use Rattle.ssi_run.specs.Traces.{change_of, changes_of}
 use Rattle.ssi_run.proofs.Rest.{IsLeft}
 use Rattle.ssi_run.proofs.changes.write_changes.Given as goal
 
-abbrev pub invariant-loop-index : goal.invariant-loop-index
-invariant-loop-index g l = record {
+abbrev pub invariant-loop-fact : goal.invariant-loop-fact
+invariant-loop-fact g l = record {
   left : IsLeft (g.K.Sink.written l.fn.sink) (g.K.Sink.written l.sink) (g.K.Sink.faults l.fn.sink) (g.K.Sink.faults l.sink)
-      (changes_of l.flags l.fn.shown l.state) (changes_of (drop l.index l.flags) (drop l.index l.fn.shown) (drop l.index l.state));
-  noted : l.shown ≡ take l.index l.state ++ drop l.index l.fn.shown;
+      (changes_of l.plan l.fn.shown l.state) (flat_map (change_of l.plan l.fn.shown l.state) (drop l.fact (facts_of (counts_of l.plan))));
+  noted : l.shown ≡ take l.fact l.state ++ drop l.fact l.fn.shown;
 }

@@ -6,8 +6,8 @@ use Rattle.ssi_run.proofs.layout.flags.Given as goal
 
 abbrev pub invariant-loop-spot : goal.invariant-loop-spot
 invariant-loop-spot l = record {
-  so_far : l.flags ≡ map (characters l.text) (take l.spot-index l.spot-items);
-  names : names_of l.names Flag ≡ l.flags;
-  left : are_new 512 l.flags (map (characters l.text) (drop l.spot-index l.spot-items)) ≡ are_new 512 [] (flag_names l.text l.tree);
+  so_far : l.flags.items ≡ map (characters l.text) (take l.spot-index l.spot-items);
+  names : names_of l.names Flag ≡ l.flags.items;
+  left : are_new 512 l.flags.items (map (characters l.text) (drop l.spot-index l.spot-items)) ≡ are_new 512 [] (flag_names l.text l.tree);
   others : l.names ≡ with_names l.fn.names Flag (names_of l.names Flag);
 }

@@ -1,5 +1,9 @@
 use Rattle.ssi_run.proofs.OneAnswer.{one}
+use Rattle.ssi_run.proofs.SomeAnswer.{some}
 use Rattle.ssi_run.proofs.program.one_answer.Goals as goal
 
-pub returns : goal.returns
-returns c = one
+pub returns-clause-some : goal.returns-clause-some
+returns-clause-some c = some
+
+pub returns-clause-one : goal.returns-clause-one
+returns-clause-one c = one

@@ -5,13 +5,13 @@ use Rattle.ssi_run.specs.Traces.{cycles_in}
 use Rattle.ssi_run.proofs.StepLaws.{ReadsOn}
 use Rattle.ssi_run.proofs.script.steps.Given as goal
 
-abbrev pub invariant-loop-tokens : goal.invariant-loop-tokens
-invariant-loop-tokens l = record {
-  read : ReadsOn (names_of l.names Request) l.fn.tokens.left l.steps l.tokens.left;
-  cycles : l.cycles ≡ cycles_in l.steps;
+abbrev pub invariant-steps : goal.invariant-steps
+invariant-steps l = record {
+  read : ReadsOn l.text (names_of l.names Request) l.fn.tokens.left l.steps.items l.tokens.left;
+  cycles : l.cycles ≡ cycles_in l.steps.items;
   within : l.cycles ≤ 1000000;
   end : l.tokens.end ≡ l.fn.tokens.end;
 }
 
-abbrev pub decreases-loop-tokens : goal.decreases-loop-tokens
-decreases-loop-tokens l = length l.tokens.left
+abbrev pub decreases-steps : goal.decreases-steps
+decreases-steps l = length l.tokens.left

@@ -20,5 +20,5 @@ loop-turn-preserved g c =
       left = less_left (rw step at c.loop-turn.invariant.left) (Written-past c.in_ok-write_cycle.is c.branch-write_cycle.ensures c.write_cycle.ensures.writes);
       after = sym then ∙ c.loop-turn.invariant.after;
       shown = c.in_ok-write_cycle.ensures.noted;
-      flags = c.write_cycle.ensures.flags ∙ c.loop-turn.invariant.flags;
+      facts = c.write_cycle.ensures.facts ∙ c.loop-turn.invariant.facts;
     }

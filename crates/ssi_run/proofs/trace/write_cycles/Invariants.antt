@@ -11,5 +11,5 @@ invariant-loop-turn g l = record {
   after : after_cycles l.plan (l.count - l.turn) (record { world = l.core; number = l.first + l.turn })
       ≡ after_cycles l.plan l.count (record { world = l.fn.core; number = l.first });
   shown : l.shown ≡ l.core.state;
-  flags : length l.core.state ≡ length l.fn.core.state;
+  facts : length l.core.state ≡ length l.fn.core.state;
 }

@@ -23,5 +23,5 @@ loop-step-preserved g c =
       left = less_left left (Written-past c.in_ok-number.is c.branch-number.ensures c.write_step.ensures.writes);
       fits = omega (arith, c.in_ok-number.ensures.made, cycles_next c.args.plan.now c.args.steps.now c.loop-step.step-index (Panel 0 0) within, c.loop-step.invariant.fits);
       shown = c.in_ok-number.ensures.noted;
-      flags = c.write_step.ensures.flags ∙ c.loop-step.invariant.flags;
+      facts = c.write_step.ensures.facts ∙ c.loop-step.invariant.facts;
     }

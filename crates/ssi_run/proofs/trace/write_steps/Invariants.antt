@@ -10,5 +10,5 @@ invariant-loop-step g l = record {
       (steps_text l.plan (drop l.step-index l.steps) (record { world = l.core; number = l.number }));
   fits : l.number + cycles_in (drop l.step-index l.steps) < 2 ^ 64;
   shown : l.shown ≡ l.core.state;
-  flags : length l.core.state ≡ length l.fn.core.state;
+  facts : length l.core.state ≡ length l.fn.core.state;
 }

@@ -1,5 +1,5 @@
 use Rattle.std.proofs.Common.{◌≡◌, drop}
-use Rattle.ssi_terms.specs.Readers.{GoesOn}
+use Rattle.ssi_lexer.specs.Readings.{GoesOn}
 use Rattle.ssi_terms.specs.Read as spec
 use Rattle.ssi_terms.proofs.files.headers.Given as goal
 

@@ -1,5 +1,8 @@
-use Rattle.ssi_terms.proofs.FileLaws.{one_first}
+use Rattle.ssi_terms.proofs.FirstFiles.{begins_or_not, one_first}
 use Rattle.ssi_terms.proofs.first.one_tree.Goals as goal
 
-pub returns : goal.returns
-returns c = one_first
+pub returns-clause-some : goal.returns-clause-some
+returns-clause-some c = begins_or_not
+
+pub returns-clause-one : goal.returns-clause-one
+returns-clause-one c = one_first
