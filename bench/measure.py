@@ -1,9 +1,11 @@
 """Makes inputs in a temporary folder, times a program on them, and prints the figures.
 
-Each input is run three times, with its output into a file, and the middle time is taken. The output is
-looked at: a run that answers something else than is expected ends the bench.
+Each input is run three times, with its output into a file, and the middle time is taken. Status and output
+are looked at: a run that answers something else than is expected ends the bench. Where figures are asked of
+an input, they are printed with whether they are kept.
 """
 
+import collections
 import itertools
 import os
 import shutil
@@ -17,23 +19,34 @@ LIMIT = 2_097_152
 RUNS = 3
 FLAGS = 512
 REQUESTS = 1_024
+TRACKS = 504
 WAITING = 64
+SECONDS_ASKED = 0.25
+MEMORY_ASKED = 96 * 2**20
 CHARACTERS = "ABCDEFGHIJKLMNOPQRSTUVWXYZ0123456789-"
+FILES = "PTS SIG TCS RTE SUB FLG TFM PRR PFM FOP OPT IPT".split()
 
 
-def names(letter, count):
-    """The first names of three characters that begin with the letter."""
-    pairs = itertools.product(CHARACTERS, repeat=2)
-    return [letter + a + b for a, b in itertools.islice(pairs, count)]
+def names(letter, count, length=3):
+    """The first names of so many characters that begin with the letter."""
+    rests = itertools.product(CHARACTERS, repeat=length - 1)
+    return [letter + "".join(rest) for rest in itertools.islice(rests, count)]
+
+
+def layout(files):
+    """Twelve files; the dictionary has the entries of those that aren't empty."""
+    return "".join(f"file {name}\n{files.get(name, '')}" for name in FILES)
+
+
+def entered(entries):
+    """Entries, each on a line and with its end."""
+    return "".join(f"{entry} .\n" for entry in entries)
 
 
 def text(flags, requests, script):
-    """Twelve files with these entries, and a script."""
-    files = {"FLG": "".join(f"{name} .\n" for name in flags)}
-    files["PRR"] = "".join(f"{name} {body} .\n" for name, body in requests)
-    order = "PTS SIG TCS RTE SUB FLG TFM PRR PFM FOP OPT IPT".split()
-    data = "".join(f"file {name}\n{files.get(name, '')}" for name in order)
-    return data + "file RUN\n" + script
+    """Twelve files with these flags and requests, and a script."""
+    files = {"FLG": entered(flags), "PRR": entered(f"{name} {body}" for name, body in requests)}
+    return layout(files) + "file RUN\n" + script
 
 
 def idle():
@@ -106,8 +119,76 @@ def commands():
     return whole + " " * (2_000_000 - len(whole))
 
 
-def measured(program, source, output):
-    """The middle time of some runs in seconds, and the most memory of them in bytes."""
+def turns(items, at, count):
+    """So many items from a place on, round and round."""
+    return [items[(at + step) % len(items)] for step in range(count)]
+
+
+def module(address, kind, wired):
+    """An entry of TFM with its pins from 0 on."""
+    pins = ", ".join(f"{name} at {pin}" for pin, name in enumerate(wired))
+    return f"{address} {kind} {pins}"
+
+
+def wiring(points, signals, tracks):
+    """Modules for all of these: two points in one, eight signals or tracks."""
+    sorts = [("points", points, 2), ("signal", signals, 8), ("track", tracks, 8)]
+    groups = [(kind, at[i : i + size]) for kind, at, size in sorts for i in range(0, len(at), size)]
+    return [module(address, kind, wired) for address, (kind, wired) in enumerate(groups, 1)]
+
+
+def filled():
+    """2,000,000 bytes without a fault, with each limit filled as far as 63 modules allow.
+
+    63 modules can't wire as many points, signals and tracks as there may be. Here 10 of them have 20 points,
+    26 have 208 signals and 27 have 216 tracks; of all else there is as much as there may be. What is left of
+    the size goes to the requests, each a list of choices over identities of every kind.
+    """
+    points, signals, tracks = names("P", 20), names("S", 208), names("T", 216)
+    routes, subs, flags = names("R", 512), names("U", 1_024), names("L", FLAGS)
+    requests = names("Q", REQUESTS)
+    files = {
+        "PTS": entered(f"{p} over {','.join(turns(tracks, 4 * i, 4))}" for i, p in enumerate(points)),
+        "SIG": entered(signals),
+        "TCS": entered(tracks),
+        "RTE": entered(
+            f"{r} from {signals[i % len(signals)]} by {','.join(turns(subs, 2 * i, 32))}"
+            for i, r in enumerate(routes)
+        ),
+        "SUB": entered(
+            f"{u} on {tracks[i % len(tracks)]} with {','.join(p + ' cr' for p in turns(points, i, 8))}"
+            for i, u in enumerate(subs)
+        ),
+        "FLG": entered(flags),
+        "TFM": entered(wiring(points, signals, tracks)),
+        "PRR": entered(f"{q} " for q in requests),  # to be filled below
+    }
+
+    def choice(at):
+        """A choice over one identity of each kind but the signals."""
+        p, t, r, u, f = (kind[at % len(kind)] for kind in (points, tracks, routes, subs, flags))
+        return f"if {r} a,{t} c,{u} f,{p} cn then {r} s,{p} cr,{u} l,{f} s else {f} xs end"
+
+    size = 2_000_000 - len(layout(files)) - len("file RUN\ncycle 1 .\n")
+    count = size // REQUESTS // (len(choice(0)) + 1)
+    files["PRR"] = entered(
+        f"{q} {','.join(choice(i * count + turn) for turn in range(count))}" for i, q in enumerate(requests)
+    )
+    whole = layout(files) + "file RUN\ncycle 1 .\n"
+    return whole + " " * (2_000_000 - len(whole))
+
+
+def unwired():
+    """As many tracks as the input can declare, none of them wired, and how many faults these are."""
+    count = (LIMIT - len(layout({}))) // len("TAAAA.")
+    return layout({"TCS": "".join(f"{name}." for name in names("T", count, 5))}), count
+
+
+def measured(program, source, output, want):
+    """The middle time of some runs in seconds, and the most memory of them in bytes.
+
+    Each run ends with the wanted status.
+    """
     times, most = [], 0
     said = output + ".most"
     timer = shutil.which("time")
@@ -117,11 +198,12 @@ def measured(program, source, output):
             before = time.perf_counter()
             status = subprocess.run(words, stdin=given, stdout=taken).returncode
             times.append(time.perf_counter() - before)
-        if status:
-            sys.exit(f"bench: status {status} for {source}")
+        if status != want:
+            sys.exit(f"bench: status {status} for {source}, and {want} was expected")
         if timer:
+            # Before the figure, `time` tells a status that isn't 0.
             with open(said) as it:
-                most = max(most, int(it.read()) * 1024)
+                most = max(most, int(it.read().split()[-1]) * 1024)
     return statistics.median(times), most
 
 
@@ -132,19 +214,33 @@ def taken_and_lines(output):
     return sum(b" - - 0:" in line for line in lines), len(lines)
 
 
+def faults_by_code(output):
+    """How many lines each fault has, by its code; `later` counts as one."""
+    with open(output, "rb") as it:
+        return dict(collections.Counter(line.split()[2 if b":" in line else 1].decode() for line in it))
+
+
 def report(what, count, unit, seconds, most):
     memory = f"{most / 2**20:.1f} MiB at most" if most else "memory not measured (no `time`)"
     print(f"{what}: {seconds:.3f} s, {count / seconds / 1e6:.1f} million {unit} a second, {memory}")
 
 
-def timed(program, room, name, made, want):
+def report_asked(seconds, most):
+    """Whether a text was read and answered in the time and memory asked of it."""
+    kept = seconds <= SECONDS_ASKED and most <= MEMORY_ASKED
+    said = "NOT KEPT" if not kept else "kept" if most else "the time is kept"
+    print(f"  asked of it: at most {SECONDS_ASKED} s and {MEMORY_ASKED // 2**20} MiB: {said}")
+
+
+def timed(program, room, name, made, want, status=0, count=taken_and_lines):
+    """The figures of a program on an input, once its status and what it wrote are as wanted."""
     source, output = os.path.join(room, name), os.path.join(room, name + ".out")
     with open(source, "w") as it:
         it.write(made)
-    figures = measured(program, source, output)
-    got = taken_and_lines(output)
+    figures = measured(program, source, output, status)
+    got = count(output)
     if got != want:
-        sys.exit(f"bench: {name} took and wrote {got}, and {want} was expected")
+        sys.exit(f"bench: {name} wrote {got}, and {want} was expected")
     return figures
 
 
@@ -164,6 +260,15 @@ def main():
         made = commands()
         figures = timed(program, room, "commands", made, (0, 1))
         report(f"a text of {len(made):,} bytes, in commands of three", len(made), "bytes", *figures)
+        made = filled()
+        figures = timed(program, room, "filled", made, {"later": 1}, 1, faults_by_code)
+        report(f"a text of {len(made):,} bytes, its limits filled", len(made), "bytes", *figures)
+        report_asked(*figures)
+        made, count = unwired()
+        faults = {"N8": TRACKS, "N11": count - TRACKS}
+        figures = timed(program, room, "unwired", made, faults, 1, faults_by_code)
+        report(f"a text of {len(made):,} bytes with {count:,} faults", len(made), "bytes", *figures)
+        report_asked(*figures)
 
 
 main()

@@ -1,5 +1,5 @@
 -- Bodies one layer at a time: what a fold gives of each item and of a body, cases of an item, and induction.
-use Rattle.std.proofs.Common.{◌≡◌, ap, subst, sym, ◌∙◌, List, [], ◌∷◌, Option, Some, None, map}
+use Rattle.std.proofs.Common.{◌≡◌, ap, subst, sym, ◌∙◌, List, Option, Some, None, map}
 use Rattle.std.specs.List.{AllByRecursion}
 use Rattle.std.specs.Option.{option_map}
 use Rattle.ssi_identities.specs.declared.rule.Cmd.{Cmd}
@@ -10,6 +10,7 @@ use Rattle.ssi_identities.specs.declared.rule.BodyItem.TheVariants.{Do, If, roll
 use Rattle.ssi_identities.specs.declared.rule.BodyItem.TheFolds.{fold-roll-BodyItem, fold-roll-Body, ind-BodyItem, ind-Body, map-BodyItem, map-Body}
 use Rattle.ssi_identities.specs.declared.rule.BodyItem.TheViews.{roll-BodyItem, roll-Body}
 use Rattle.ssi_identities.specs.declared.rule.Body.{Body, fold-Body}
+use Rattle.ssi_identities.proofs.Conditions.{With, each_of}
 
 -- a fold of a body folds its items
 pub body_is : (A B : Type 0) (f : BodyItem-F A B → A) (g : Body-F A B → B) (items : List BodyItem) → fold-Body A B f g (record { items = items }) ≡ g (record { items = map (fold-BodyItem A B f g) items })
@@ -23,15 +24,6 @@ do_is A B f g command = ap (fold-BodyItem A B f g) (sym (rolls-Do command)) ∙ 
 pub if_is : (A B : Type 0) (f : BodyItem-F A B → A) (g : Body-F A B → B) (guard : Cond) (body : Body) (other : Option Body) → fold-BodyItem A B f g (If guard body other) ≡ f (BodyItem-F.If guard (fold-Body A B f g body) (option_map (fold-Body A B f g) other))
 if_is A B f g guard body None = ap (fold-BodyItem A B f g) (sym (rolls-If guard body None)) ∙ fold-roll-BodyItem A B f g (BodyItem-F.If guard body None)
 if_is A B f g guard body (Some other) = ap (fold-BodyItem A B f g) (sym (rolls-If guard body (Some other))) ∙ fold-roll-BodyItem A B f g (BodyItem-F.If guard body (Some other))
-
--- a value with what is shown of it
-abbrev pub With : {X : Type 0} → (X → Type 0) → Type 0
-With {X} P = (x : X) × P x
-
--- what is shown of each of some values
-each_of : {X : Type 0} (P : X → Type 0) (es : List (With P)) → AllByRecursion P (map (λ e. e.0) es)
-each_of P [] = tt
-each_of P (e ∷ es) = (e.1, each_of P es)
 
 -- what holds of every command, of a choice where it holds of its branches, and of a body where it holds of its items, holds of every body and item
 module _ (P : BodyItem → Type 0) (Q : Body → Type 0)

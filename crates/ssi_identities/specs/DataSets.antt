@@ -1,14 +1,19 @@
 -- The data set of a layout: its identities with their names, each list in written order, and how many there are.
-use Rattle.std.specs.Prelude.{ℕ, ◌≤◌, Bool, List, [], map, length, slice_index_or}
+use Rattle.std.specs.Prelude.{ℕ, ◌≤◌, Bool, Option, List, [], map, length, slice_index_or}
 use Rattle.ssi_identities.specs.declared.fact.Counts.{Counts}
 use Rattle.ssi_identities.specs.declared.fact.Kind.{Kind}
 use Rattle.ssi_identities.specs.declared.fact.Kind.TheVariants.{Points, Signal, Track, Route, Subroute, Flag, Request}
+use Rattle.ssi_identities.specs.declared.rule.Body.{Body}
+use Rattle.ssi_identities.specs.declared.rule.Cmd.{Cmd}
+use Rattle.ssi_identities.specs.declared.rule.Cond.{Cond}
 use Rattle.ssi_identities.specs.declared.data_set.RequestRow.{RequestRow}
 
--- what a layout says of points: their name, and the tracks that they lie over
+-- what a layout says of points: their name, the tracks that they lie over, and when they are free to move to normal and to reverse, never where there is no condition
 pub record PointsPlan : Type 0 where
   pub name : List ℕ
   pub tracks : List ℕ
+  pub free_normal : Option Cond
+  pub free_reverse : Option Cond
 
 -- what a layout says of a route: its name, the signal that it begins at, and its sub-routes
 pub record RoutePlan : Type 0 where
@@ -22,6 +27,20 @@ pub record SubPlan : Type 0 where
   pub track : ℕ
   pub lies : List (ℕ × Bool)
 
+-- a statement: its commands, and the guard under which they act
+pub record StmtPlan : Type 0 where
+  pub commands : List Cmd
+  pub guard : Cond
+
+-- a trackside module: its address; its kind, 0 of points, 1 of signals, 2 of tracks; the identity that each pin is wired to, by the pin's number;
+-- when each bit that is sent to it is 1, by the bit's number, never where there is no condition; and what a report of it does
+pub record ModulePlan : Type 0 where
+  pub address : ℕ
+  pub kind : ℕ
+  pub pins : List (Option ℕ)
+  pub outputs : List (Option Cond)
+  pub input : Option Body
+
 -- a data set; the number of an identity is its place in the list of its kind
 pub record Plan : Type 0 where
   pub points : List PointsPlan
@@ -31,6 +50,8 @@ pub record Plan : Type 0 where
   pub subs : List SubPlan
   pub flags : List (List ℕ)
   pub requests : List RequestRow
+  pub statements : List StmtPlan
+  pub modules : List ModulePlan
 
 -- each list is short enough that a number of 16 bits says its length
 pub record IsCountable (plan : Plan) : Type 0 where

@@ -2,24 +2,37 @@
 
 use crate::fact::{Counts, Kind};
 use crate::name::Name;
-use crate::rule::Body;
+use crate::rule::{Body, Cmd, Cond};
 use std::marker::Model;
 
-/// Points with the tracks that they lie over.
+/// Points with the tracks that they lie over, and the conditions under which they are free to move.
 #[derive(Drop)]
 pub struct PointsRow {
     /// The points' name.
     pub name: Name,
     /// The tracks' numbers.
     pub tracks: Vec<u16>,
+    /// When the points are free to move to normal; never where there is no condition.
+    pub free_normal: Option<Cond>,
+    /// When the points are free to move to reverse; never where there is no condition.
+    pub free_reverse: Option<Cond>,
 }
 
 impl Model for PointsRow {
+    ghost use Rattle.std.specs.Coded.{codes};
+    ghost use Rattle.ssi_identities.specs.contracts.rule.CondItem as cond_item;
     ghost use Rattle.ssi_identities.specs.DataSets.{PointsPlan};
 
     ghost Value = { PointsPlan };
 
-    ghost view = { λ row. record { name = row.name; tracks = row.tracks.items } };
+    ghost coded = { Prim.hlevel (codes, cond_item.the_row.coded) };
+
+    ghost view = { λ row. record {
+      name = row.name;
+      tracks = row.tracks.items;
+      free_normal = row.free_normal;
+      free_reverse = row.free_reverse;
+    } };
 }
 
 /// A route with its signal and its sub-routes.
@@ -69,6 +82,63 @@ pub struct RequestRow {
     pub body: Body,
 }
 
+/// A statement: its commands act where its guard holds. The guard is valued once, before them.
+#[derive(Drop)]
+pub struct Stmt {
+    /// In written order.
+    pub commands: Vec<Cmd>,
+    /// When they act.
+    pub guard: Cond,
+}
+
+impl Model for Stmt {
+    ghost use Rattle.std.specs.Coded.{codes};
+    ghost use Rattle.ssi_identities.specs.contracts.rule.CondItem as cond_item;
+    ghost use Rattle.ssi_identities.specs.DataSets.{StmtPlan};
+
+    ghost Value = { StmtPlan };
+
+    ghost coded = { Prim.hlevel (codes, cond_item.the_row.coded) };
+
+    ghost view = { λ row. record { commands = row.commands.items; guard = row.guard } };
+}
+
+/// A trackside module with its wiring, the conditions of the bits sent to it, and what its reports do.
+#[derive(Drop)]
+pub struct ModuleRow {
+    /// The module's address, 1 to 63.
+    pub address: u8,
+    /// 0 of points, 1 of signals, 2 of tracks.
+    pub kind: u8,
+    /// By the pin's number: the number of the identity that it is wired to; none where it is empty.
+    /// Modules of points have 2 pins, the others 8.
+    pub pins: Vec<Option<u16>>,
+    /// By the bit's number, 0 to 7, 0 being the lowest: when the bit is 1; never where there is no
+    /// condition.
+    pub outputs: Vec<Option<Cond>>,
+    /// What a report of the module does; nothing where there is no body.
+    pub input: Option<Body>,
+}
+
+impl Model for ModuleRow {
+    ghost use Rattle.std.specs.Coded.{codes};
+    ghost use Rattle.ssi_identities.specs.contracts.rule.BodyItem as body_item;
+    ghost use Rattle.ssi_identities.specs.contracts.rule.CondItem as cond_item;
+    ghost use Rattle.ssi_identities.specs.DataSets.{ModulePlan};
+
+    ghost Value = { ModulePlan };
+
+    ghost coded = { Prim.hlevel (codes, cond_item.the_row.coded, body_item.the_row.coded) };
+
+    ghost view = { λ row. record {
+      address = row.address;
+      kind = row.kind;
+      pins = row.pins.items;
+      outputs = row.outputs.items;
+      input = row.input;
+    } };
+}
+
 /// The data of a layout, each list in written order. An identity's number is its place in the list of
 /// its kind.
 #[derive(Drop)]
@@ -87,16 +157,21 @@ pub struct DataSet {
     pub flags: Vec<Name>,
     /// The requests.
     pub requests: Vec<RequestRow>,
+    /// The statements. Their turns come round over the minor cycles, in this order.
+    pub statements: Vec<Stmt>,
+    /// The trackside modules.
+    pub modules: Vec<ModuleRow>,
 }
 
 impl Model for DataSet {
     ghost use Rattle.std.specs.Coded.{codes};
     ghost use Rattle.ssi_identities.specs.contracts.rule.BodyItem as body_item;
+    ghost use Rattle.ssi_identities.specs.contracts.rule.CondItem as cond_item;
     ghost use Rattle.ssi_identities.specs.DataSets.{Plan};
 
     ghost Value = { Plan };
 
-    ghost coded = { Prim.hlevel (codes, body_item.the_row.coded) };
+    ghost coded = { Prim.hlevel (codes, cond_item.the_row.coded, body_item.the_row.coded) };
 
     ghost view = { λ plan. record {
       points = plan.points.items;
@@ -106,6 +181,8 @@ impl Model for DataSet {
       subs = plan.subs.items;
       flags = plan.flags.items;
       requests = plan.requests.items;
+      statements = plan.statements.items;
+      modules = plan.modules.items;
     } };
 }
 

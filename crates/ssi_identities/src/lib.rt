@@ -5,8 +5,8 @@
 //! their words ([`FactKind::word`]), on [`Names`], which number the names of each kind in the order of
 //! their first declaration, on the counts and names of a [`DataSet`], and on the state at the [`start`].
 //! The definitions of value, steps and effect stand here, with the laws that they go by
-//! ([`laws_of_effects`], [`laws_of_command_counts`], [`laws_of_steps`]). It stands on `ssi_base` for want
-//! of memory.
+//! ([`laws_of_values`], [`laws_of_effects`], [`laws_of_command_counts`], [`laws_of_steps`]). It stands on
+//! `ssi_base` for want of memory.
 #![tactic(auto)]
 
 mod data_set;
@@ -17,13 +17,13 @@ mod names;
 mod rule;
 mod state;
 
-pub use data_set::{DataSet, PointsRow, RequestRow, RouteRow, SubRow};
+pub use data_set::{DataSet, ModuleRow, PointsRow, RequestRow, RouteRow, Stmt, SubRow};
 pub use fact::{
     Counts, FactKind, Kind, fact_count, fact_number, fact_of, facts_in_order, one_fact,
 };
 pub use meaning::{
-    laws_of_command_counts, laws_of_effects, laws_of_steps, worked_bits, worked_bodies,
-    worked_conditions, worked_steps,
+    laws_of_command_counts, laws_of_effects, laws_of_steps, laws_of_values, worked_bits,
+    worked_bodies, worked_conditions, worked_groups, worked_points, worked_steps,
 };
 pub use name::Name;
 pub use names::{Added, Names};

@@ -1,16 +1,47 @@
 //! What conditions and bodies mean: the laws that bodies go by, and examples worked by hand.
 
-ghost use Rattle.std.specs.Prelude.{◌≡◌, ℕ, ◌+◌, Bool, true, false, if◌then◌else◌, List, [], ◌∷◌, ◌++◌, Some, None};
+ghost use Rattle.std.specs.Prelude.{◌≡◌, ℕ, ◌+◌, Bool, true, false, if◌then◌else◌, List, [], ◌∷◌, ◌++◌, ◌*◌, ◌&&◌, ◌||◌, Some, None};
 ghost use Rattle.ssi_identities.specs.declared.rule.Cmd.{Cmd};
+ghost use Rattle.ssi_identities.specs.declared.rule.CondItem.{CondItem};
+ghost use Rattle.ssi_identities.specs.declared.rule.CondItem.TheVariants.{Lit, Bit, Free, Any};
 ghost use Rattle.ssi_identities.specs.declared.rule.Cond.{Cond};
 ghost use Rattle.ssi_identities.specs.declared.rule.BodyItem.{BodyItem};
 ghost use Rattle.ssi_identities.specs.declared.rule.BodyItem.TheVariants.{Do, If};
 ghost use Rattle.ssi_identities.specs.declared.rule.Body.{Body};
 ghost use Rattle.ssi_identities.specs.DataSets.{Plan};
-ghost use Rattle.ssi_identities.specs.States.{State};
-ghost use Rattle.ssi_identities.specs.Values.{bit_of, value_of};
+ghost use Rattle.ssi_identities.specs.States.{State, truth_of};
+ghost use Rattle.ssi_identities.specs.Values.{Scene, bit_of, cond_of, holds_in, is_as_wanted, is_free, item_holds, may_move, move_condition_of, move_scene, scene_of, value_of};
 ghost use Rattle.ssi_identities.specs.Steps.{Valuation, act_of, after_steps, body_of, command_count_of, effect_of, item_command_count_of, item_effect_of, item_steps_from, obey, step_of, steps_from, steps_of};
-ghost use Rattle.ssi_identities.specs.WorkedExamples.{two_flags, flags, l1_is, l1_becomes, l2_becomes, step, l1_set_and_l2_not, no_fact_is_false, looks_at_what_it_set, undoes_its_guard, copies_l1, sets_then_resets, sets_no_fact, goes_on_after_a_choice};
+ghost use Rattle.ssi_identities.specs.WorkedExamples.{two_flags, one_is_set, nested_groups, no_alternative, bit_is, points_and_flag, points_are, free_to, flags, l1_is, l1_becomes, l2_becomes, step, l1_set_and_l2_not, no_fact_is_false, looks_at_what_it_set, undoes_its_guard, copies_l1, sets_then_resets, sets_no_fact, goes_on_after_a_choice};
+
+/// A condition holds where all of its items do, and a group where one of its alternatives does. Points are
+/// free to a lie where they are controlled to it, or where their own condition for the lie holds. That
+/// condition does not ask in turn which points are free.
+pub fn laws_of_values()
+    ensures no_item { (scene : Scene) → holds_in scene (cond_of []) ≡ true }
+    ensures items { (scene : Scene) (item : CondItem) (items : List CondItem)
+        → holds_in scene (cond_of (item ∷ items)) ≡ (item_holds scene item && holds_in scene (cond_of items)) }
+    ensures fact { (scene : Scene) (fact : ℕ) (wanted : Bool)
+        → item_holds scene (Lit fact wanted) ≡ is_as_wanted (truth_of scene.state fact) wanted }
+    ensures bit { (scene : Scene) (bit : ℕ) (wanted : Bool)
+        → item_holds scene (Bit bit wanted) ≡ is_as_wanted (scene.bits bit) wanted }
+    ensures free { (scene : Scene) (points : ℕ) (reverse : Bool)
+        → item_holds scene (Free points reverse) ≡ scene.free points reverse }
+    ensures no_alternative { (scene : Scene) → item_holds scene (Any []) ≡ false }
+    ensures alternatives { (scene : Scene) (cond : Cond) (conds : List Cond)
+        → item_holds scene (Any (cond ∷ conds)) ≡ (holds_in scene cond || item_holds scene (Any conds)) }
+    ensures bit_of_the_report { (plan : Plan) (state : State) (report bit : ℕ) (wanted : Bool)
+        → item_holds (scene_of plan state report) (Bit bit wanted) ≡ is_as_wanted (bit_of report bit) wanted }
+    ensures controlled_or_free { (plan : Plan) (state : State) (report points : ℕ) (reverse : Bool)
+        → item_holds (scene_of plan state report) (Free points reverse)
+        ≡ (is_as_wanted (truth_of state (3 * points)) reverse
+        || may_move state report (move_condition_of plan points reverse)) }
+    ensures no_condition { (state : State) (report : ℕ) → may_move state report None ≡ false }
+    ensures own_condition { (state : State) (report : ℕ) (cond : Cond)
+        → may_move state report (Some cond) ≡ holds_in (move_scene state report) cond }
+    ensures no_points_in_turn { (state : State) (report points : ℕ) (reverse : Bool)
+        → item_holds (move_scene state report) (Free points reverse) ≡ false }
+{}
 
 /// The items of a body act one after another: a command gives its fact the value, and a choice acts as
 /// the branch that its guard takes in the state just before.
@@ -82,6 +113,48 @@ pub fn worked_conditions()
         → value_of two_flags l1_set_and_l2_not (flags true true) report ≡ false }
     ensures past_the_end { (report : ℕ)
         → value_of two_flags no_fact_is_false (flags true true) report ≡ true }
+    ensures bit_is_one { (l1 l2 : Bool)
+        → value_of two_flags (bit_is 2 true) (flags l1 l2) 0b0000_0100 ≡ true }
+    ensures bit_is_not_one { (l1 l2 : Bool)
+        → value_of two_flags (bit_is 2 true) (flags l1 l2) 0b1111_1011 ≡ false }
+    ensures bit_is_zero { (l1 l2 : Bool)
+        → value_of two_flags (bit_is 7 false) (flags l1 l2) 0b0111_1111 ≡ true }
+{}
+
+/// A group holds where one of its alternatives does, and groups may stand in groups.
+pub fn worked_groups()
+    ensures first { (l2 : Bool) (report : ℕ) → value_of two_flags one_is_set (flags true l2) report ≡ true }
+    ensures second { (l1 : Bool) (report : ℕ) → value_of two_flags one_is_set (flags l1 true) report ≡ true }
+    ensures neither { (report : ℕ) → value_of two_flags one_is_set (flags false false) report ≡ false }
+    ensures no_alternative { (l1 l2 : Bool) (report : ℕ)
+        → value_of two_flags no_alternative (flags l1 l2) report ≡ false }
+    ensures outer { (report : ℕ) → value_of two_flags nested_groups (flags true true) report ≡ true }
+    ensures outer_fails { (report : ℕ) → value_of two_flags nested_groups (flags true false) report ≡ false }
+    ensures inner_first { (report : ℕ)
+        → value_of two_flags nested_groups (flags false false) report ≡ true }
+    ensures inner_second { value_of two_flags nested_groups (flags false true) 0b1111_1110 ≡ true }
+    ensures inner_fails { value_of two_flags nested_groups (flags false true) 0b0000_0001 ≡ false }
+{}
+
+/// Points are free to a lie where they are controlled to it already or where their own condition for it
+/// holds.
+pub fn worked_points()
+    ensures controlled_normal { (p2 l1 : Bool) (report : ℕ)
+        → value_of points_and_flag (free_to 0 false) (points_are false p2 l1) report ≡ true }
+    ensures free_to_normal { (p2 : Bool) (report : ℕ)
+        → value_of points_and_flag (free_to 0 false) (points_are true p2 true) report ≡ true }
+    ensures held_reverse { (p2 : Bool) (report : ℕ)
+        → value_of points_and_flag (free_to 0 false) (points_are true p2 false) report ≡ false }
+    ensures controlled_reverse { (p2 l1 : Bool) (report : ℕ)
+        → value_of points_and_flag (free_to 0 true) (points_are true p2 l1) report ≡ true }
+    ensures free_to_reverse { (p2 : Bool) (report : ℕ)
+        → value_of points_and_flag (free_to 0 true) (points_are false p2 false) report ≡ true }
+    ensures held_normal { (p2 : Bool) (report : ℕ)
+        → value_of points_and_flag (free_to 0 true) (points_are false p2 true) report ≡ false }
+    ensures other_points { (p1 : Bool) (report : ℕ)
+        → value_of points_and_flag (free_to 1 true) (points_are p1 false true) report ≡ true }
+    ensures no_condition { (p1 l1 : Bool) (report : ℕ)
+        → value_of points_and_flag (free_to 1 false) (points_are p1 true l1) report ≡ false }
 {}
 
 /// The bits of a report's byte, the lowest first. There are eight.

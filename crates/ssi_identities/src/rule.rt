@@ -3,13 +3,36 @@
 use sqlite_items::Items;
 
 /// An item of a condition.
-#[derive(Clone, Copy, Debug, PartialEq, Eq)]
+#[cycle(cond)]
+#[derive(Drop)]
 pub enum CondItem {
-    /// The fact of this number has the wanted value.
-    Lit { fact: u16, wanted: bool },
+    /// A fact has the wanted value.
+    Lit {
+        /// The fact's number, below the count of facts.
+        fact: u16,
+        /// Whether the fact is to be true.
+        wanted: bool,
+    },
+    /// A bit of the report at hand has the wanted value. Only the input of a module has such items.
+    Bit {
+        /// The bit's number, 0 to 7, 0 being the lowest.
+        bit: u8,
+        /// Whether the bit is to be 1.
+        wanted: bool,
+    },
+    /// Points are controlled to a lie or free to move to it. The conditions of points have no such items.
+    Free {
+        /// The points' number.
+        points: u16,
+        /// Whether the lie is reverse.
+        reverse: bool,
+    },
+    /// A group: one of the alternatives holds.
+    Any(Items<Cond>),
 }
 
 /// A condition: all of its items hold.
+#[cycle(cond)]
 #[derive(Drop)]
 pub struct Cond {
     /// In written order.

@@ -1,4 +1,4 @@
-ghost use Rattle.std.specs.Prelude.{◌<◌, length, IfOk};
+ghost use Rattle.std.specs.Prelude.{◌≡◌, ◌<◌, length, IfOk};
 ghost use Rattle.ssi_identities.specs.DataSets.{IsCountable};
 
 use super::*;
@@ -211,18 +211,96 @@ fn tracks_are_occupied_at_the_start(rt: HostRuntime) -> Result<(), Fail> {
     Ok(())
 }
 
-/// Two points, a signal, two tracks, a route, two sub-routes, three flags and two requests.
+/// A condition of one item.
+fn one_item(alloc: Global, item: CondItem) -> Result<Cond, Fail> {
+    Ok(Cond {
+        items: Items::from_vec(vec![in alloc; item]?),
+    })
+}
+
+/// A module of points with the first points at its second pin, a condition on one of eight bits, and a
+/// body that sets the first flag by a bit of the report.
+fn small_module(alloc: Global) -> Result<ModuleRow, Fail> {
+    let is_high = CondItem::Bit {
+        bit: 0,
+        wanted: true,
+    };
+    let set_l1 = BodyItem::Do(Cmd {
+        fact: 13,
+        value: true,
+    });
+    let choice = BodyItem::If {
+        guard: one_item(alloc, is_high)?,
+        then_body: Body {
+            items: Items::from_vec(vec![in alloc; set_l1]?),
+        },
+        else_body: None,
+    };
+    let is_reverse = CondItem::Lit {
+        fact: 0,
+        wanted: true,
+    };
+    let output = Some(one_item(alloc, is_reverse)?);
+    Ok(ModuleRow {
+        address: 5,
+        kind: 0,
+        pins: vec![in alloc; None, Some(0)]?,
+        outputs: vec![in alloc; output, None, None, None, None, None, None, None]?,
+        input: Some(Body {
+            items: Items::from_vec(vec![in alloc; choice]?),
+        }),
+    })
+}
+
+/// A statement that resets the first flag where the second points are free to move to normal or reverse.
+fn small_statement(alloc: Global) -> Result<Stmt, Fail> {
+    let normal = CondItem::Free {
+        points: 1,
+        reverse: false,
+    };
+    let reverse = CondItem::Free {
+        points: 1,
+        reverse: true,
+    };
+    let alternatives = vec![in alloc; one_item(alloc, normal)?, one_item(alloc, reverse)?]?;
+    let reset_l1 = Cmd {
+        fact: 13,
+        value: false,
+    };
+    Ok(Stmt {
+        commands: vec![in alloc; reset_l1]?,
+        guard: one_item(alloc, CondItem::Any(Items::from_vec(alternatives)))?,
+    })
+}
+
+/// Two points, the second free to move to reverse where the first track is clear.
+fn small_points(alloc: Global) -> Result<Vec<PointsRow>, Fail>
+    ensures { IfOk result (λ rows. length rows.items ≡ 2) }
+{
+    let is_clear = CondItem::Lit {
+        fact: 7,
+        wanted: false,
+    };
+    let first = PointsRow {
+        name: Name::new(b"P1"),
+        tracks: vec![in alloc; 0]?,
+        free_normal: None,
+        free_reverse: None,
+    };
+    let second = PointsRow {
+        name: Name::new(b"P2"),
+        tracks: vec![in alloc; 0, 1]?,
+        free_normal: None,
+        free_reverse: Some(one_item(alloc, is_clear)?),
+    };
+    Ok(vec![in alloc; first, second]?)
+}
+
+/// Two points, a signal, two tracks, a route, two sub-routes, three flags, two requests, a statement and a
+/// module.
 fn small_data_set(alloc: Global) -> Result<DataSet, Fail>
     ensures { IfOk result IsCountable }
 {
-    let first_points = PointsRow {
-        name: Name::new(b"P1"),
-        tracks: vec![in alloc; 0]?,
-    };
-    let second_points = PointsRow {
-        name: Name::new(b"P2"),
-        tracks: vec![in alloc; 0, 1]?,
-    };
     let route = RouteRow {
         name: Name::new(b"R1"),
         signal: 0,
@@ -255,13 +333,15 @@ fn small_data_set(alloc: Global) -> Result<DataSet, Fail>
         },
     };
     Ok(DataSet {
-        points: vec![in alloc; first_points, second_points]?,
+        points: small_points(alloc)?,
         signals: vec![in alloc; Name::new(b"S1")]?,
         tracks: vec![in alloc; Name::new(b"T1"), Name::new(b"T2")]?,
         routes: vec![in alloc; route]?,
         subs: vec![in alloc; first_sub, second_sub]?,
         flags: vec![in alloc; Name::new(b"L1"), Name::new(b"L2"), Name::new(b"L3")]?,
         requests: vec![in alloc; first_request, second_request]?,
+        statements: vec![in alloc; small_statement(alloc)?]?,
+        modules: vec![in alloc; small_module(alloc)?]?,
     })
 }
 

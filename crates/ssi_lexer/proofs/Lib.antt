@@ -13,3 +13,6 @@ pub mod Repeating
 pub mod Listing
 pub mod Starting
 pub mod Numbers
+pub mod Spellings
+pub mod OneAnswer
+pub mod Sequences

@@ -1,5 +1,6 @@
 -- How the tokens of a language begin, and which tests such a token doesn't pass.
-use Rattle.std.proofs.Common.{◌≡◌, ℕ, Bool, true, false, ◌&&◌, List, [], ◌++◌, refl, ap}
+use Rattle.std.proofs.Common.{◌≡◌, ℕ, Bool, true, false, ◌&&◌, List, [], ◌∷◌, ◌++◌, refl, ap, arith}
+use Rattle.std.proofs.lemmas.Bool.Decides.{nat_tests}
 use Rattle.std.specs.Str.{bytes_eq}
 use Rattle.std.proofs.lemmas.Slice.Eq.{bytes_eq-Decides}
 use Rattle.ssi_lexer.specs.declared.token.Token.{Token}
@@ -23,6 +24,10 @@ some_word letters = (bytes_eq-Decides letters letters).1 refl
 
 pub some_name : (characters : List ℕ) → Is (name characters) (some_token k.Name characters)
 some_name characters = (bytes_eq-Decides characters characters).1 refl
+
+-- a letter and a digit are the name of an identity of the letter's kind
+pub some_identity : (letter : ℕ) → Is (identity (letter ∷ [])) (some_token k.Name (letter ∷ 49 ∷ []))
+some_identity letter = grind (arith, nat_tests)
 
 -- ---- what is both is each
 
@@ -62,6 +67,16 @@ identity_not_word kinds letters t e = rw (one_kind t.kind k.Name k.Word refl (an
 
 pub dot_not_comma : (t : Lexeme) → Is dot t → comma t ≡ false
 dot_not_comma t e = one_kind t.kind k.Dot k.Comma refl e
+
+-- a mark is neither a word nor a name
+pub dot_not_word : (letters : List ℕ) (t : Lexeme) → Is dot t → word letters t ≡ false
+dot_not_word letters t e = rw (one_kind t.kind k.Dot k.Word refl e) refl
+
+pub dot_not_identity : (kinds : List ℕ) (t : Lexeme) → Is dot t → identity kinds t ≡ false
+dot_not_identity kinds t e = rw (one_kind t.kind k.Dot k.Name refl e) refl
+
+pub word_not_number : (letters : List ℕ) (t : Lexeme) → Is (word letters) t → of_kind k.Number t ≡ false
+word_not_number letters t e = one_kind t.kind k.Word k.Number refl (word_kind letters t e)
 
 -- two words with other letters
 pub other_word : (letters others : List ℕ) (t : Lexeme) → bytes_eq letters others ≡ false → Is (word letters) t → word others t ≡ false

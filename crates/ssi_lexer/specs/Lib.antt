@@ -3,6 +3,7 @@ pub mod Lexemes
 pub mod Readings
 pub mod TokenTests
 pub mod Languages
+pub mod Spelling
 pub mod Parsers
 pub mod Laws
 pub mod Scan

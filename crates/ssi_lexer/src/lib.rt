@@ -2,7 +2,8 @@
 //!
 //! The layer above may rely on [`Tokens`], which gives the tokens of a text in order, with number and
 //! place, up to the end of the text or its first lexical fault: those of the one cutting of the text
-//! (`AreTokens`), and no others. It stands on `ssi_base` for places.
+//! (`AreTokens`), and no others. Its readers are instances of [`Part`] and [`Entry`], whose laws hold of
+//! lists and repetitions of them too. It stands on `ssi_base` for places.
 #![tactic(auto)]
 
 mod parts;

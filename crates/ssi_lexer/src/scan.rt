@@ -42,19 +42,13 @@ pub struct Front<'a> {
     pub rest: &'a [u8],
 }
 
-/// Past bytes of no token with no line feed among them.
-fn right(cursor: Cursor, count: u32) -> Cursor
-    requires { IsWithin cursor count }
-    ensures { result ≡ spec.right cursor count }
+/// Goes past bytes of no token with no line feed among them.
+fn go_right(cursor: &mut Cursor, count: u32)
+    requires { IsWithin cursor.old count }
+    ensures { cursor.new ≡ spec.right cursor.old count }
 {
-    Cursor {
-        start: cursor.start + count,
-        number: cursor.number,
-        place: Place {
-            line: cursor.place.line,
-            column: cursor.place.column + count,
-        },
-    }
+    cursor.start += count;
+    cursor.place.column += count;
 }
 
 fn is_separator(byte: u8) -> bool
@@ -63,21 +57,16 @@ fn is_separator(byte: u8) -> bool
     matches!(byte, b' ' | b'\t' | b'\r' | b'\n')
 }
 
-fn past_separator(cursor: Cursor, byte: u8) -> Cursor
-    requires { IsWithin cursor 1 }
-    ensures { result ≡ spec.past cursor Separator (byte ∷ []) }
+fn go_past_separator(cursor: &mut Cursor, byte: u8)
+    requires { IsWithin cursor.old 1 }
+    ensures { cursor.new ≡ spec.past cursor.old Separator (byte ∷ []) }
 {
     if byte != b'\n' {
-        return right(cursor, 1);
+        return go_right(cursor, 1);
     }
-    Cursor {
-        start: cursor.start + 1,
-        number: cursor.number,
-        place: Place {
-            line: cursor.place.line + 1,
-            column: 1,
-        },
-    }
+    cursor.start += 1;
+    cursor.place.line += 1;
+    cursor.place.column = 1;
 }
 
 /// How many bytes stand before the next line feed, or the end.
@@ -88,29 +77,37 @@ fn line_len(bytes: &[u8]) -> usize
     bytes.iter().take_while(|byte| **byte != b'\n').count()
 }
 
-/// Past the comment that goes on in these bytes.
-fn past_comment<'a>(cursor: Cursor, more: &'a [u8]) -> (Cursor, &'a [u8])
-    requires { IsWithin cursor (1 + length more.now) }
-    ensures cursor { result.0 ≡ spec.past cursor Comment (47 ∷ spec.run_of Comment more.now) }
-    ensures rest { result.1.now ≡ spec.rest_of Comment more.now }
-    ensures shorter { length result.1.now ≤ length more.now }
-    ensures within { IsWithin result.0 (length result.1.now) }
+/// Goes past the comment that goes on in these bytes, and answers what is left of them.
+fn go_past_comment<'a>(cursor: &mut Cursor, more: &'a [u8]) -> &'a [u8]
+    requires { IsWithin cursor.old (1 + length more.now) }
+    ensures cursor { cursor.new ≡ spec.past cursor.old Comment (47 ∷ spec.run_of Comment more.now) }
+    ensures rest { result.now ≡ spec.rest_of Comment more.now }
+    ensures shorter { length result.now ≤ length more.now }
+    ensures within { IsWithin cursor.new (length result.now) }
 {
     let (line, rest) = more.split_at(line_len(more));
-    (right(cursor, 1 + line.len() as u32), rest)
+    go_right(cursor, 1 + line.len() as u32);
+    rest
 }
 
-/// Past the separator or the comment that begins with the byte and goes on in the others.
-fn past_gap<'a>(first: u8, more: &'a [u8], cursor: Cursor) -> Option<(Cursor, &'a [u8])>
-    requires { IsWithin cursor (1 + length more.now) }
-    ensures gap { IfSome result (λ after. IsPastGap after.0 after.1.now cursor (first ∷ more.now)) }
+/// Goes past the separator or the comment that begins with the byte and goes on in the others, if one does, and
+/// answers what is left of them.
+fn go_past_gap<'a>(first: u8, more: &'a [u8], cursor: &mut Cursor) -> Option<&'a [u8]>
+    requires { IsWithin cursor.old (1 + length more.now) }
+    ensures gap { IfSome result (λ rest. IsPastGap cursor.new rest.now cursor.old (first ∷ more.now)) }
     ensures none { IfNone result (IsNoGap first) }
+    ensures same { IfNone result (cursor.new ≡ cursor.old) }
 {
+    // Most tokens begin with a letter or a digit, which one comparison tells.
+    if first > b'/' {
+        return None;
+    }
     if is_separator(first) {
-        return Some((past_separator(cursor, first), more));
+        go_past_separator(cursor, first);
+        return Some(more);
     }
     if first == b'/' {
-        return Some(past_comment(cursor, more));
+        return Some(go_past_comment(cursor, more));
     }
     None
 }
@@ -119,9 +116,14 @@ fn past_gap<'a>(first: u8, more: &'a [u8], cursor: Cursor) -> Option<(Cursor, &'
 fn kind_at(byte: u8) -> Option<TokenKind>
     ensures { result ≡ spec.token_kind_at byte }
 {
+    // Letters come most, and are told first.
+    if byte >= b'a' {
+        return (byte <= b'z').then_some(TokenKind::Word);
+    }
+    if byte >= b'A' {
+        return (byte <= b'Z').then_some(TokenKind::Name);
+    }
     match byte {
-        b'A'..=b'Z' => Some(TokenKind::Name),
-        b'a'..=b'z' => Some(TokenKind::Word),
         b'0'..=b'9' => Some(TokenKind::Number),
         b',' => Some(TokenKind::Comma),
         b'.' => Some(TokenKind::Dot),
@@ -134,7 +136,14 @@ fn kind_at(byte: u8) -> Option<TokenKind>
 fn is_in_name(byte: u8) -> bool
     ensures { result ≡ lengthens (A TokenKind.Name) byte }
 {
-    matches!(byte, b'A'..=b'Z' | b'0'..=b'9' | b'-')
+    // Most are letters, and most that end a name are a space, a comma or a line feed: these are told first.
+    if byte >= b'A' {
+        return byte <= b'Z';
+    }
+    if byte < b'-' {
+        return false;
+    }
+    matches!(byte, b'0'..=b'9' | b'-')
 }
 
 /// How many bytes of the text make a token longer that begins just before it.
@@ -158,17 +167,18 @@ fn run_len(kind: TokenKind, rest: &[u8]) -> usize
 
 /// Whether a run of digits is a number.
 fn is_number(digits: &[u8]) -> bool
+    requires { 0 < length digits.now }
     ensures { result ≡ is_number_of digits.now }
 {
-    match digits {
-        [] => false,
-        [b'0', rest @ ..] => rest.is_empty(),
-        [_, rest @ ..] => rest.len() <= 6,
+    if digits[0] == b'0' {
+        return digits.len() == 1;
     }
+    digits.len() <= 7
 }
 
 /// The code of a run of the kind that is no token.
 fn code_of(kind: TokenKind, characters: &[u8]) -> Option<u8>
+    requires { 0 < length characters.now }
     ensures { result ≡ (if is_piece (A kind) characters.now then None else Some (spec.code_of (A kind))) }
 {
     match kind {
@@ -179,89 +189,95 @@ fn code_of(kind: TokenKind, characters: &[u8]) -> Option<u8>
 }
 
 /// No more tokens: what is left of the text begins with none.
-fn ended<'a>(end: TextEnd, cursor: Cursor, bytes: &'a [u8]) -> Front<'a>
-    requires { IsWithin cursor (length bytes.now) }
-    ensures tokens { spec.tokens_of result ≡ spec.no_more end }
-    ensures within { IsWithin result.cursor (length result.rest.now) }
-    ensures characters { AreItsCharacters result.ahead result.characters.now }
+fn end<'a>(front: &mut Front<'a>, end: TextEnd)
+    requires { IsWithin front.old.cursor (length front.old.rest.now) }
+    ensures tokens { spec.tokens_of front.new ≡ spec.no_more end }
+    ensures within { IsWithin front.new.cursor (length front.new.rest.now) }
+    ensures characters { AreItsCharacters front.new.ahead front.new.characters.now }
 {
-    Front {
-        ahead: Ahead::End(end),
-        characters: &[],
-        cursor,
-        rest: bytes,
-    }
+    front.ahead = Ahead::End(end);
+    front.characters = &[];
 }
 
 /// A fault at the next byte.
-fn faulty<'a>(code: u8, cursor: Cursor, bytes: &'a [u8]) -> Front<'a>
-    requires { IsWithin cursor (length bytes.now) }
-    ensures tokens { spec.tokens_of result ≡ spec.fault_at cursor code }
-    ensures within { IsWithin result.cursor (length result.rest.now) }
-    ensures characters { AreItsCharacters result.ahead result.characters.now }
+fn fault<'a>(front: &mut Front<'a>, code: u8)
+    requires { IsWithin front.old.cursor (length front.old.rest.now) }
+    ensures tokens { spec.tokens_of front.new ≡ spec.fault_at front.old.cursor code }
+    ensures within { IsWithin front.new.cursor (length front.new.rest.now) }
+    ensures characters { AreItsCharacters front.new.ahead front.new.characters.now }
 {
-    let place = cursor.place;
-    ended(TextEnd::Faulty(LexFault { code, place }), cursor, bytes)
+    let place = front.cursor.place;
+    end(front, TextEnd::Faulty(LexFault { code, place }))
 }
 
 /// A token, and what is left of the text after it.
-fn one<'a>(kind: TokenKind, cursor: Cursor, characters: &'a [u8], rest: &'a [u8]) -> Front<'a>
+fn one<'a>(front: &mut Front<'a>, kind: TokenKind, characters: &'a [u8], rest: &'a [u8])
     requires some { 0 < length characters.now }
-    requires within { IsWithin cursor (length characters.now + length rest.now) }
-    ensures ahead { result.ahead ≡ Ahead.Next (spec.token_at kind cursor (length characters.now)) }
-    ensures characters { result.characters.now ≡ characters.now }
-    ensures cursor { result.cursor ≡ spec.past_token cursor (length characters.now) }
-    ensures rest { result.rest.now ≡ rest.now }
-    ensures within { IsWithin result.cursor (length result.rest.now) }
+    requires within { IsWithin front.old.cursor (length characters.now + length rest.now) }
+    ensures ahead { front.new.ahead ≡ Ahead.Next (spec.token_at kind front.old.cursor (length characters.now)) }
+    ensures characters { front.new.characters.now ≡ characters.now }
+    ensures cursor { front.new.cursor ≡ spec.past_token front.old.cursor (length characters.now) }
+    ensures rest { front.new.rest.now ≡ rest.now }
+    ensures within { IsWithin front.new.cursor (length front.new.rest.now) }
 {
     let len = characters.len() as u32;
-    let token = Token {
+    front.ahead = Ahead::Next(Token {
         kind,
-        start: cursor.start,
+        start: front.cursor.start,
         len,
-        number: cursor.number,
-        place: cursor.place,
-    };
-    let after = right(cursor, len);
-    Front {
-        ahead: Ahead::Next(token),
-        characters,
-        cursor: Cursor {
-            start: after.start,
-            number: after.number + 1,
-            place: after.place,
-        },
-        rest,
-    }
+        number: front.cursor.number,
+        place: front.cursor.place,
+    });
+    front.characters = characters;
+    front.cursor.start += len;
+    front.cursor.number += 1;
+    front.cursor.place.column += len;
+    front.rest = rest;
 }
 
 /// The token that begins with the first byte of the text and goes on in the others, or the fault there.
-fn cut_token<'a>(first: u8, more: &[u8], cursor: Cursor, bytes: &'a [u8]) -> Front<'a>
-    requires parts { bytes.now ≡ first ∷ more.now }
+fn cut_token<'a>(first: u8, more: &'a [u8], front: &mut Front<'a>)
+    requires parts { front.old.rest.now ≡ first ∷ more.now }
     requires no_gap { IsNoGap first }
-    requires within { IsWithin cursor (length bytes.now) }
-    ensures { IsFront result cursor bytes.now }
+    requires within { IsWithin front.old.cursor (length front.old.rest.now) }
+    ensures { IsFront front.new front.old.cursor front.old.rest.now }
 {
     let Some(kind) = kind_at(first) else {
-        return faulty(BAD_CHARACTER, cursor, bytes);
+        return fault(front, BAD_CHARACTER);
     };
-    let (characters, rest) = bytes.split_at(1 + run_len(kind, more));
+    let (characters, rest) = front.rest.split_at(1 + run_len(kind, more));
     match code_of(kind, characters) {
-        None => one(kind, cursor, characters, rest),
-        Some(code) => faulty(code, cursor, bytes),
+        None => one(front, kind, characters, rest),
+        Some(code) => fault(front, code),
     }
 }
 
-/// What stands in front of a text, past separators and comments.
-pub fn cut_front<'a>(mut cursor: Cursor, mut bytes: &'a [u8]) -> Front<'a>
-    requires { IsWithin cursor (length bytes.now) }
-    ensures { IsFront result cursor bytes.entry.now }
+/// Puts in front what stands next, past separators and comments. It is written in place, since a `Front` is large.
+#[inline(never)]
+pub fn cut_front<'a>(front: &mut Front<'a>)
+    requires { IsWithin front.old.cursor (length front.old.rest.now) }
+    ensures { IsFront front.new front.old.cursor front.old.rest.now }
 {
-    while let [first, more @ ..] = bytes {
-        match past_gap(*first, more, cursor) {
-            Some(after) => (cursor, bytes) = after,
-            None => return cut_token(*first, more, cursor, bytes),
+    while let [first, more @ ..] = front.rest {
+        match go_past_gap(*first, more, &mut front.cursor) {
+            Some(rest) => front.rest = rest,
+            None => return cut_token(*first, more, front),
         }
     }
-    ended(TextEnd::Finished(cursor.place), cursor, bytes)
+    end(front, TextEnd::Finished(front.cursor.place));
+}
+
+/// What stands in front of a text from its cursor on.
+pub fn front_of<'a>(cursor: Cursor, bytes: &'a [u8]) -> Front<'a>
+    requires { IsWithin cursor (length bytes.now) }
+    ensures { IsFront result cursor bytes.now }
+{
+    let mut front = Front {
+        ahead: Ahead::End(TextEnd::Finished(cursor.place)),
+        characters: &[],
+        cursor,
+        rest: bytes,
+    };
+    cut_front(&mut front);
+    front
 }

@@ -226,3 +226,22 @@ fn numbers_are_valued(rt: HostRuntime) {
         assert_eq!(rt; Tokens::new(text, 0).first_number(), expected);
     }
 }
+
+#[test]
+fn each_place_is_told(rt: HostRuntime) {
+    let mut tokens = Tokens::new(b"A1\n . #", 0);
+    assert_eq!(rt; tokens.place(), Ok(Place { line: 1, column: 1 }));
+    tokens.skip();
+    assert_eq!(rt; tokens.place(), Ok(Place { line: 2, column: 2 }));
+    tokens.skip();
+    let place = Place { line: 2, column: 4 };
+    assert_eq!(rt;
+        tokens.place(),
+        Err(LexFault {
+            code: BAD_CHARACTER,
+            place
+        })
+    );
+    let tokens = Tokens::new(b" /x\n ", 0);
+    assert_eq!(rt; tokens.place(), Ok(Place { line: 2, column: 2 }));
+}

@@ -4,8 +4,9 @@ ghost use Rattle.std.specs.Prelude.{◌≡◌, ℕ, ◌≤◌, List, length, All
 ghost use Rattle.ssi_lexer.specs.declared.token.TextEnd.{TextEnd as End};
 ghost use Rattle.ssi_lexer.specs.Lexemes.{Lexeme, AreTokens, IsLexeme, StandsIn};
 ghost use Rattle.ssi_lexer.specs.Readings.{first_of, first_text as text_of_first, answer_at, after_next, end_if, IsShort};
+ghost use Rattle.ssi_lexer.specs.Spelling.{place_of};
 
-use crate::scan::{Ahead, Cursor, Front, cut_front};
+use crate::scan::{Ahead, Cursor, Front, cut_front, front_of};
 use crate::token::{LexFault, TextEnd, Token};
 use ssi_base::Place;
 use std::marker::Model;
@@ -51,7 +52,7 @@ impl<'a> Tokens<'a> {
         Tokens {
             text,
             position: start,
-            front: cut_front(cursor, &text[start..]),
+            front: front_of(cursor, &text[start..]),
         }
     }
 
@@ -120,7 +121,19 @@ impl<'a> Tokens<'a> {
     {
         if let Ahead::Next(token) = self.front.ahead {
             self.position = token.start as usize + token.len as usize;
-            self.front = cut_front(self.front.cursor, self.front.rest);
+            cut_front(&mut self.front);
+        }
+    }
+
+    /// The place of the next token, or of the end of the text where none is left; the fault where the text
+    /// goes on with one.
+    pub fn place(&self) -> Result<Place, LexFault>
+        ensures { result ≡ place_of self.now.left self.now.end }
+    {
+        match self.front.ahead {
+            Ahead::Next(token) => Ok(token.place),
+            Ahead::End(TextEnd::Finished(past)) => Ok(past),
+            Ahead::End(TextEnd::Faulty(found)) => Err(found),
         }
     }
 
@@ -137,7 +150,8 @@ impl<'a> Tokens<'a> {
 
 /// A text has one cutting: its tokens, their places and their end are determined.
 pub fn one_cutting()
-    ensures some { (text : List ℕ) (start : ℕ) → (lexemes : List Lexeme) × (end : End) × AreTokens text start lexemes end }
+    ensures some { (text : List ℕ) (start : ℕ)
+        → (lexemes : List Lexeme) × (end : End) × AreTokens text start lexemes end }
     ensures one { (text : List ℕ) (start : ℕ) (a b : List Lexeme) (e f : End)
         → AreTokens text start a e → AreTokens text start b f → (a ≡ b) × (e ≡ f) }
 {}

@@ -1,11 +1,12 @@
 pub mod Rest
 pub mod Shown
 pub mod Turns
-pub mod Declared
-pub mod Short
 pub mod StepLaws
 pub mod ScriptLaws
-pub mod Accepting
 pub mod Answering
 pub mod OneAnswer
 pub mod SomeAnswer
+pub mod Replying
+pub mod Promises
+pub mod NewNames
+pub mod FaultTexts

@@ -3,6 +3,7 @@ use Rattle.std.proofs.Common.{◌≡◌, ℕ, suc, ◌+◌, ◌<◌, ◌≤◌, 
 use Rattle.std.specs.List.{flat_map}
 use Rattle.std.proofs.Math.ListN.{set}
 use Rattle.std.specs.Bool.{beq}
+use Rattle.std.specs.Prelude.{not}
 use Rattle.std.proofs.Math.Seq.{drop-cons, set-append_seam, get_or-append_seam}
 use Rattle.std.proofs.lemmas.List.{drop_all, drop_more, get_or-map, take_more}
 use Rattle.std.proofs.lemmas.List.FromFn.{get_or-range_with_len}
@@ -75,7 +76,13 @@ shown_next old new i within more =
     rw (take_more new i false within, drop-cons old i false, append_assoc, add-one)
     (seam_set (take i new) (get_or old i false) (drop (suc i) old) i (get_or new i false) (taken new i within))
 
-shown_at : (old new : List Bool) (i : ℕ) → i < length new → i < length old → get_or (take i new ++ drop i old) i false ≡ get_or old i false
+-- a fact whose value is as before is shown already
+pub shown_already : (old new : List Bool) (i : ℕ) → i < length new → i < length old → get_or old i false ≡ get_or new i false
+    → take i new ++ drop i old ≡ take (i + 1) new ++ drop (i + 1) old
+shown_already old new i within more same =
+    rw (take_more new i false within, drop-cons old i false, append_assoc, add-one, same) refl
+
+pub shown_at : (old new : List Bool) (i : ℕ) → i < length new → i < length old → get_or (take i new ++ drop i old) i false ≡ get_or old i false
 shown_at old new i within more =
     rw (drop-cons old i false) (seam_get (take i new) (get_or old i false) (drop (suc i) old) i (taken new i within))
 
@@ -94,11 +101,23 @@ all_shown plan old new i past = ap (flat_map (change_of plan old new)) (drop_all
 -- ---- one fact
 
 -- a fact whose value differs is written
-pub differing : (plan : Plan) (fact : Fact) (before after : Bool) → beq before after ≡ false → change_text plan fact before after ≡ fact_text plan fact after
+pub differing : (plan : Plan) (fact : Fact) (before after : Bool) → not (beq before after) ≡ true → change_text plan fact before after ≡ fact_text plan fact after
 differing plan fact true true e = absurd cc
 differing plan fact true false e = refl
 differing plan fact false true e = refl
 differing plan fact false false e = absurd cc
+
+-- one whose value is the same isn't
+pub same_text : (plan : Plan) (fact : Fact) (before after : Bool) → before ≡ after → change_text plan fact before after ≡ []
+same_text plan fact before true e = rw e refl
+same_text plan fact before false e = rw e refl
+
+-- values that are not different are the same
+pub alike : (before after : Bool) → not (beq before after) ≡ false → before ≡ after
+alike true true e = refl
+alike true false e = absurd cc
+alike false true e = absurd cc
+alike false false e = refl
 
 -- ---- nothing changed
 

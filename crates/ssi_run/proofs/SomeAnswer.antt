@@ -12,25 +12,27 @@ use Rattle.ssi_lexer.specs.Parsers.{Outcome}
 use Rattle.ssi_lexer.proofs.Choosing.{Without}
 use Rattle.ssi_lexer.specs.Laws.{Always}
 use Rattle.ssi_lexer.proofs.Joining.{took}
-use Rattle.ssi_lexer.proofs.Streams.{some_tokens, same_tokens}
-use Rattle.ssi_identities.specs.DataSets.{Plan}
-use Rattle.ssi_terms.specs.Trees.{FirstFiles}
-use Rattle.ssi_terms.specs.Grammar.{BeginsFirst}
-use Rattle.ssi_terms.proofs.FirstFiles.{begins_or_not, one_first}
 use Rattle.ssi_run.specs.declared.script.ScriptStep.{ScriptStep}
 use Rattle.ssi_run.specs.declared.script.StepTree.{StepTree}
-use Rattle.ssi_run.specs.declared.words.Command.{Command}
-use Rattle.ssi_run.specs.declared.words.Command.TheVariants.{Run}
-use Rattle.ssi_run.specs.Statuses.{statuses, input_limit, usage_line, later_line, too_large_line}
-use Rattle.ssi_run.specs.Layouts.{all_of, resolved, row_names}
-use Rattle.ssi_run.specs.Scripts.{SpellsStep, step_of, IsFinished, AreSteps, IsScript}
+use Rattle.ssi_run.specs.Scripts.{all_of, SpellsStep, step_of, IsFinished, AreSteps, IsScript}
 use Rattle.ssi_run.specs.ScriptReading.{any, header}
-use Rattle.ssi_run.specs.Traces.{cycles_in, trace_of}
-use Rattle.ssi_run.specs.Answers.{Answer, IsForm, RunAnswers, a_trace, fault_later, too_large, CommandAnswers, HasAnAnswer}
-use Rattle.ssi_run.specs.Words.{command_of}
-use Rattle.ssi_run.proofs.Accepting.{NoForm, begins_by, form_by, no_files, no_layout, no_script}
 use Rattle.ssi_run.proofs.StepLaws.{both_ways, some_and_none, one_found, one_value, good_steps, read_from, spelled_is}
 use Rattle.ssi_run.proofs.ScriptLaws.{no_header, a_script, steps_behind}
+use Rattle.ssi_identities.specs.DataSets.{Plan, names_in}
+use Rattle.ssi_identities.specs.declared.fact.Kind.TheVariants.{Request}
+use Rattle.ssi_lexer.specs.Spelling.{Answer as Finding, taken, fault_at, inside, HasOneAnswer as HasOneFinding}
+use Rattle.ssi_terms.specs.Tests.{ends_file}
+use Rattle.ssi_names.specs.SourceTexts.{SourceText}
+use Rattle.ssi_names.specs.Sources.{SpellsSource}
+use Rattle.ssi_names.specs.Faults.{faults_of}
+use Rattle.ssi_names.specs.Rows.{resolved}
+use Rattle.ssi_run.specs.declared.words.Command.{Command}
+use Rattle.ssi_run.specs.declared.words.Command.TheVariants.{Run}
+use Rattle.ssi_run.specs.FaultLines.{lexical_line, syntax_line, name_fault_lines}
+use Rattle.ssi_run.specs.Statuses.{statuses, input_limit, usage_line, later_line, too_large_line}
+use Rattle.ssi_run.specs.Traces.{cycles_in, trace_of}
+use Rattle.ssi_run.specs.Answers.{Answer, faulty, done, IsRun, PlanAnswers, a_trace, later, TreeAnswers, name_faults, a_plan, TokenAnswers, no_token, no_spelling, a_tree, InputAnswers, RunAnswers, within, too_large, CommandAnswers, HasAnAnswer}
+use Rattle.ssi_run.specs.Words.{command_of}
 
 -- ---- steps or none
 
@@ -62,15 +64,15 @@ module _ (text : List ℕ) (requests : List (List ℕ)) (end : TextEnd) where
     named_here steps are = ap (λ (ts : List StepTree). all_of (map (step_of text requests) ts)) (sym (only_trees steps are)) ∙ are.named
 
     ended : (steps : List ScriptStep) → all_of (map (step_of text requests) trees) ≡ Some steps → cycles_in steps ≤ 1000000 → IsFinished end ⊎ (IsFinished end → ⊥) → StepsOrNot tokens
-    ended steps named within (inl finished) = inl (steps, record { trees = trees; spells = spells; named = named; within = within; finished = finished })
-    ended steps named within (inr not) = inr (λ steps are. not are.finished)
+    ended steps named few (inl finished) = inl (steps, record { trees = trees; spells = spells; named = named; within = few; finished = finished })
+    ended steps named few (inr not) = inr (λ steps are. not are.finished)
 
     counted : (steps : List ScriptStep) → all_of (map (step_of text requests) trees) ≡ Some steps → (cycles_in steps ≤ 1000000) ⊎ (1000000 < cycles_in steps) → StepsOrNot tokens
-    counted steps named (inl within) = ended steps named within (finished_or_not end)
+    counted steps named (inl few) = ended steps named few (finished_or_not end)
     counted steps named (inr past) = inr (λ others are.
         let same = one_found (all_of (map (step_of text requests) trees)) others steps (named_here others are) named in
-        let few = are.within in
-        absurd (omega (arith, past, few, ap cycles_in same)))
+        let small = are.within in
+        absurd (omega (arith, past, small, ap cycles_in same)))
 
     numbered : (o : Option (List ScriptStep)) → all_of (map (step_of text requests) trees) ≡ o → StepsOrNot tokens
     numbered None e = inr (λ steps are. some_and_none (all_of (map (step_of text requests) trees)) steps e (named_here steps are))
@@ -104,51 +106,60 @@ module _ (text : List ℕ) (requests : List (List ℕ)) (end : TextEnd) where
   pub script_or_not : (tokens : List Lexeme) → ScriptOrNot tokens
   script_or_not tokens = at_header tokens (header tokens) refl
 
--- ---- a layout with a script or none
+-- ---- a data set that is run, or none
 
-abbrev pub FormOrNot : List ℕ → Type 0
-FormOrNot input = ((plan : Plan) × (steps : List ScriptStep) × IsForm input plan steps) ⊎ NoForm input
+module _ (input : List ℕ) (script : List Lexeme) (end : TextEnd) where
+  abbrev RunOrNot : Plan → Type 0
+  RunOrNot plan = ((steps : List ScriptStep) × IsRun input plan steps script end) ⊎ ((steps : List ScriptStep) → IsRun input plan steps script end → ⊥)
 
-module _ (input : List ℕ) (lexemes : List Lexeme) (end : TextEnd) (tokens : AreTokens input 0 lexemes end) where
-  only_tokens : (found : List Lexeme) (e : TextEnd) → AreTokens input 0 found e → (found ≡ lexemes) × (e ≡ end)
-  only_tokens found e are = same_tokens input 0 found lexemes e end are tokens
+  empty_or_not : {X : Type 0} (xs : List X) → (xs ≡ []) ⊎ (xs ≡ [] → ⊥)
+  empty_or_not [] = inl refl
+  empty_or_not (x ∷ xs) = inr (λ e. cc)
 
-  module _ (tree : FirstFiles) (rest : List Lexeme) (files : BeginsFirst tree lexemes rest end) where
-    only_files : (t : FirstFiles) (r : List Lexeme) → BeginsFirst t lexemes r end → (tree ≡ t) × (rest ≡ r)
-    only_files t r begins = one_first tree t lexemes rest r end files begins
+  run_by : (plan : Plan) → (plan.modules ≡ []) ⊎ (plan.modules ≡ [] → ⊥) → (plan.statements ≡ []) ⊎ (plan.statements ≡ [] → ⊥)
+      → ScriptOrNot input (names_in plan Request) end script → RunOrNot plan
+  run_by plan (inr some) s r = inr (λ steps run. some run.no_module)
+  run_by plan (inl none) (inr some) r = inr (λ steps run. some run.no_statement)
+  run_by plan (inl none) (inl nor) (inl found) = inl (found.0, record { no_module = none; no_statement = nor; script_is = found.1 })
+  run_by plan (inl none) (inl nor) (inr not) = inr (λ steps run. not steps run.script_is)
 
-    at_script : (plan : Plan) → resolved input tree ≡ Some plan → ((steps : List ScriptStep) × IsScript input (row_names plan.requests) steps rest end)
-        ⊎ ((steps : List ScriptStep) → IsScript input (row_names plan.requests) steps rest end → ⊥) → FormOrNot input
-    at_script plan is (inl found) =
-        inl (plan, found.0, form_by input tree (begins_by input lexemes end tokens tree rest files) plan is (row_names plan.requests) refl end refl found.0 found.1)
-    at_script plan is (inr none) = inr (no_script input lexemes end only_tokens tree rest only_files plan is (row_names plan.requests) refl end refl none)
+  -- ---- an answer
 
-    at_layout : (o : Option Plan) → resolved input tree ≡ o → FormOrNot input
-    at_layout None e = inr (no_layout input lexemes end only_tokens tree rest only_files e)
-    at_layout (Some plan) e = at_script plan e (script_or_not input (row_names plan.requests) end rest)
+  plan_by : (plan : Plan) → RunOrNot plan → (answer : Answer) × PlanAnswers input plan script end answer
+  plan_by plan (inl found) = (done (trace_of plan found.0), a_trace found.0 found.1)
+  plan_by plan (inr none) = (faulty later_line, later none)
 
-  at_files : ((tree : FirstFiles) × (rest : List Lexeme) × BeginsFirst tree lexemes rest end) ⊎ ((tree : FirstFiles) (rest : List Lexeme) → BeginsFirst tree lexemes rest end → ⊥) → FormOrNot input
-  at_files (inl found) = at_layout found.0 found.1 found.2 (resolved input found.0) refl
-  at_files (inr none) = inr (no_files input lexemes end only_tokens none)
+  plan_answer : (plan : Plan) → (answer : Answer) × PlanAnswers input plan script end answer
+  plan_answer plan =
+      plan_by plan (run_by plan (empty_or_not plan.modules) (empty_or_not plan.statements) (script_or_not input (names_in plan Request) end script))
 
-form_or_not : (input : List ℕ) → FormOrNot input
-form_or_not input =
-    let found = some_tokens input 0 in
-    at_files input found.0 found.1 found.2 (begins_or_not found.0 found.1)
+  tree_by : (tree : SourceText) → (faults_of input tree ≡ []) ⊎ (faults_of input tree ≡ [] → ⊥) → (answer : Answer) × TreeAnswers input tree script end answer
+  tree_by tree (inl none) = let p = plan_answer (resolved input tree) in (p.0, a_plan p.0 none p.1)
+  tree_by tree (inr some) = (faulty (name_fault_lines input (faults_of input tree)), name_faults some)
 
--- ---- an answer
+  tree_answer : (tree : SourceText) → (answer : Answer) × TreeAnswers input tree script end answer
+  tree_answer tree = tree_by tree (empty_or_not (faults_of input tree))
 
-form_answer : (input : List ℕ) → length input ≤ input_limit → FormOrNot input → (answer : Answer) × RunAnswers input answer
-form_answer input within (inl form) = (record { status = statuses.done; output = trace_of form.0 form.1 }, a_trace form.0 form.1 within form.2)
-form_answer input within (inr none) = (record { status = statuses.faulty; output = later_line }, fault_later within none)
+module _ (findings : HasOneFinding SourceText SpellsSource ends_file)
+    (cuttings : (text : List ℕ) (start : ℕ) → (lexemes : List Lexeme) × (end : TextEnd) × AreTokens text start lexemes end) where
+  token_by : (input : List ℕ) (lexemes : List Lexeme) (end : TextEnd) → Finding SourceText SpellsSource ends_file lexemes end → (answer : Answer) × TokenAnswers input lexemes end answer
+  token_by input lexemes end (taken tree script takes) = let t = tree_answer input script end tree in (t.0, a_tree tree script t.0 takes t.1)
+  token_by input lexemes end (fault_at place fault) = (faulty (syntax_line place), no_spelling place fault)
+  token_by input lexemes end (inside fault stops) = (faulty (lexical_line fault), no_token fault stops)
 
-sized_answer : (input : List ℕ) → (length input ≤ input_limit) ⊎ (input_limit < length input) → (answer : Answer) × RunAnswers input answer
-sized_answer input (inl within) = form_answer input within (form_or_not input)
-sized_answer input (inr past) = (record { status = statuses.past_limit; output = too_large_line }, too_large past)
+  input_answer : (input : List ℕ) → (answer : Answer) × InputAnswers input answer
+  input_answer input =
+      let cut = cuttings input 0 in
+      let t = token_by input cut.0 cut.1 (findings.some cut.0 cut.1) in
+      (t.0, record { lexemes = cut.0; end = cut.1; tokens = cut.2; answered = t.1 })
 
-some_command : (command : Option Command) (input : List ℕ) → (answer : Answer) × CommandAnswers command input answer
-some_command None input = (record { status = statuses.no_shape; output = usage_line }, refl)
-some_command (Some Run) input = sized_answer input (within_or_not (length input) input_limit)
+  run_answer : (input : List ℕ) → (length input ≤ input_limit) ⊎ (input_limit < length input) → (answer : Answer) × RunAnswers input answer
+  run_answer input (inl small) = let a = input_answer input in (a.0, within a.0 small a.1)
+  run_answer input (inr past) = (record { status = statuses.past_limit; output = too_large_line }, too_large past)
 
-pub some : HasAnAnswer
-some words input = some_command (command_of words) input
+  some_command : (command : Option Command) (input : List ℕ) → (answer : Answer) × CommandAnswers command input answer
+  some_command None input = (record { status = statuses.no_shape; output = usage_line }, refl)
+  some_command (Some Run) input = run_answer input (within_or_not (length input) input_limit)
+
+  pub some : HasAnAnswer
+  some words input = some_command (command_of words) input

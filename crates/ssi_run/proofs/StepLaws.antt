@@ -24,9 +24,8 @@ use Rattle.ssi_run.specs.declared.refusal.Refusal.TheVariants.{Later, Memory}
 use Rattle.ssi_run.specs.declared.script.StepTree.{StepTree}
 use Rattle.ssi_run.specs.declared.script.ScriptStep.{ScriptStep}
 use Rattle.ssi_run.specs.Findings.{Finds}
-use Rattle.ssi_run.specs.Layouts.{all_of}
 use Rattle.ssi_run.specs.Refusals.{refusal_of_stop}
-use Rattle.ssi_run.specs.Scripts.{SpellsStep, step_of, IsFinished, AreSteps}
+use Rattle.ssi_run.specs.Scripts.{all_of, SpellsStep, step_of, IsFinished, AreSteps}
 use Rattle.ssi_run.specs.ScriptReading.{step, any}
 use Rattle.ssi_run.specs.StepRules.{good_step, step_starts}
 use Rattle.ssi_run.specs.Traces.{cycles_of, cycles_in}

@@ -1,40 +1,75 @@
 -- What the program answers to its words and its input.
-use Rattle.std.specs.Prelude.{◌≡◌, ◌≢◌, ℕ, ◌<◌, ◌≤◌, List, length, Option, Some, None}
+use Rattle.std.specs.Prelude.{◌≡◌, ◌≢◌, ℕ, ◌<◌, ◌≤◌, List, [], length, Option, Some, None}
 use Rattle.std.specs.Option.{IfSome}
 use Rattle.std.specs.Io.KnownBytes.{Appends}
+use Rattle.ssi_base.specs.declared.place.Place.{Place}
 use Rattle.ssi_base.specs.Streams.{AppendsPart}
-use Rattle.ssi_identities.specs.DataSets.{Plan}
-use Rattle.ssi_terms.specs.Trees.{FirstFiles}
+use Rattle.ssi_lexer.specs.declared.token.LexFault.{LexFault}
+use Rattle.ssi_lexer.specs.declared.token.TextEnd.{TextEnd}
+use Rattle.ssi_lexer.specs.Lexemes.{Lexeme, AreTokens}
+use Rattle.ssi_lexer.specs.Spelling.{Takes, FirstFault, StopsInside}
+use Rattle.ssi_terms.specs.Tests.{ends_file}
+use Rattle.ssi_identities.specs.DataSets.{Plan, names_in}
+use Rattle.ssi_identities.specs.declared.fact.Kind.TheVariants.{Request}
+use Rattle.ssi_names.specs.SourceTexts.{SourceText}
+use Rattle.ssi_names.specs.Sources.{SpellsSource}
+use Rattle.ssi_names.specs.Faults.{faults_of}
+use Rattle.ssi_names.specs.Rows.{resolved}
 use Rattle.ssi_run.specs.declared.script.ScriptStep.{ScriptStep}
 use Rattle.ssi_run.specs.declared.words.Command.{Command}
 use Rattle.ssi_run.specs.declared.words.Command.TheVariants.{Run}
+use Rattle.ssi_run.specs.FaultLines.{lexical_line, syntax_line, name_fault_lines}
 use Rattle.ssi_run.specs.Statuses.{statuses, input_limit, usage_line, too_large_line, later_line}
-use Rattle.ssi_run.specs.Inputs.{BeginsInput}
-use Rattle.ssi_run.specs.Layouts.{resolved, row_names}
 use Rattle.ssi_run.specs.Scripts.{IsScript}
 use Rattle.ssi_run.specs.Traces.{trace_of}
 use Rattle.ssi_run.specs.Words.{command_of}
-
--- The input is a layout and the steps of a script for it: it begins with twelve files, whose names resolve
--- to the data set, and goes on with the script.
-pub record IsForm (input : List ℕ) (plan : Plan) (steps : List ScriptStep) : Type 0 where
-  pub tree : FirstFiles
-  pub files : BeginsInput input tree
-  pub plan_is : resolved input tree ≡ Some plan
-  pub script_is : IsScript input (row_names plan.requests) steps files.script files.end
 
 -- a status, and what is written
 pub record Answer : Type 0 where
   pub status : ℕ
   pub output : List ℕ
 
--- what `run` answers: the trace of the script; a fault where the input is no layout with a script; and a
--- fault where it is too large
+-- the answer to an input that has faults
+abbrev pub faulty : List ℕ → Answer
+faulty output = record { status = statuses.faulty; output = output }
+
+-- the answer to an input that was run to its end
+abbrev pub done : List ℕ → Answer
+done output = record { status = statuses.done; output = output }
+
+-- What is run today: a data set without modules and statements, and a script for it.
+pub record IsRun (input : List ℕ) (plan : Plan) (steps : List ScriptStep) (script : List Lexeme) (end : TextEnd) : Type 0 where
+  pub no_module : plan.modules ≡ []
+  pub no_statement : plan.statements ≡ []
+  pub script_is : IsScript input (names_in plan Request) steps script end
+
+-- What is answered to a data set and what stands behind its data part: the trace of the script, or that this is not run yet.
+pub data PlanAnswers (input : List ℕ) (plan : Plan) (script : List Lexeme) (end : TextEnd) : Answer → Type 0 where
+  a_trace : (steps : List ScriptStep) → IsRun input plan steps script end → PlanAnswers input plan script end (done (trace_of plan steps))
+  later : ((steps : List ScriptStep) → ¬ IsRun input plan steps script end) → PlanAnswers input plan script end (faulty later_line)
+
+-- What is answered to an input whose data part spells a tree: the faults of its names, or what its data set is answered.
+pub data TreeAnswers (input : List ℕ) (tree : SourceText) (script : List Lexeme) (end : TextEnd) : Answer → Type 0 where
+  name_faults : faults_of input tree ≢ [] → TreeAnswers input tree script end (faulty (name_fault_lines input (faults_of input tree)))
+  a_plan : (answer : Answer) → faults_of input tree ≡ [] → PlanAnswers input (resolved input tree) script end answer → TreeAnswers input tree script end answer
+
+-- What is answered to the tokens of an input: the first fault of its data part, or what its tree is answered.
+pub data TokenAnswers (input : List ℕ) (lexemes : List Lexeme) (end : TextEnd) : Answer → Type 0 where
+  no_token : (fault : LexFault) → StopsInside SourceText SpellsSource lexemes end fault → TokenAnswers input lexemes end (faulty (lexical_line fault))
+  no_spelling : (place : Place) → FirstFault SourceText SpellsSource ends_file lexemes end place → TokenAnswers input lexemes end (faulty (syntax_line place))
+  a_tree : (tree : SourceText) (script : List Lexeme) (answer : Answer) → Takes SourceText SpellsSource ends_file lexemes end tree script
+      → TreeAnswers input tree script end answer → TokenAnswers input lexemes end answer
+
+-- what `run` answers to an input within the limit: what its tokens are answered
+pub record InputAnswers (input : List ℕ) (answer : Answer) : Type 0 where
+  pub lexemes : List Lexeme
+  pub end : TextEnd
+  pub tokens : AreTokens input 0 lexemes end
+  pub answered : TokenAnswers input lexemes end answer
+
+-- what `run` answers: a fault where the input is too large
 pub data RunAnswers (input : List ℕ) : Answer → Type 0 where
-  a_trace : (plan : Plan) (steps : List ScriptStep) → length input ≤ input_limit → IsForm input plan steps
-      → RunAnswers input (record { status = statuses.done; output = trace_of plan steps })
-  fault_later : length input ≤ input_limit → ((plan : Plan) (steps : List ScriptStep) → IsForm input plan steps → ⊥)
-      → RunAnswers input (record { status = statuses.faulty; output = later_line })
+  within : (answer : Answer) → length input ≤ input_limit → InputAnswers input answer → RunAnswers input answer
   too_large : input_limit < length input → RunAnswers input (record { status = statuses.past_limit; output = too_large_line })
 
 -- what a command answers to its input; where the words have no shape, the usage line

@@ -4,8 +4,7 @@ pub mod Outcomes
 pub mod Words
 pub mod Worlds
 pub mod Traces
-pub mod Inputs
-pub mod Layouts
+pub mod FaultLines
 pub mod Refusals
 pub mod Findings
 pub mod Scripts

@@ -1,16 +1,26 @@
--- How the answer to an input was written. The clauses of the top call say the same of its words.
-use Rattle.std.specs.Prelude.{ℕ, List, Option}
-use Rattle.ssi_base.specs.Streams.{AppendsPart}
-use Rattle.ssi_run.specs.Answers.{Answer, RunAnswers, Gives}
+-- How an answer was written. The clauses of the top call say the same of its words.
+use Rattle.std.specs.Prelude.{◌≡◌, ℕ, List, Option, Result, Ok, Err, IfOk}
+use Rattle.ssi_base.specs.declared.outside.Failed.{Failed}
+use Rattle.ssi_base.specs.Faults.{Faults}
+use Rattle.ssi_base.specs.Streams.{Writes}
+use Rattle.ssi_run.specs.declared.status.Status.{Status}
+use Rattle.ssi_run.specs.declared.status.Status.TheVariants.{SinkFault}
+use Rattle.ssi_run.specs.Answers.{Answer}
+use Rattle.ssi_run.specs.Statuses.{number_of}
 
--- the answer of `run` to the input was given
-pub record GivesRun (input : List ℕ) (old new : Option (List ℕ)) (status : ℕ) : Type 0 where
+-- Some such answer was written: whole, with its status, or in part, where the sink failed.
+pub record Replies (IsSuch : Answer → Type 0) (old new : Option (List ℕ)) (before now : Faults) (result : Result Status Failed) : Type 0 where
   pub answer : Answer
-  pub is_answer : RunAnswers input answer
-  pub gives : Gives old new status answer
+  pub is_such : IsSuch answer
+  pub status : IfOk result (λ status. number_of status ≡ answer.status)
+  pub writes : Writes old new before now answer.output result
 
--- a part of the answer of `run` was written, and not the whole
-pub record GivesRunPart (input : List ℕ) (old new : Option (List ℕ)) : Type 0 where
-  pub answer : Answer
-  pub is_answer : RunAnswers input answer
-  pub part : AppendsPart old new answer.output
+-- the status of what was written; where the sink failed, that it did
+abbrev pub told_of : Result (Unit {0}) Failed → Status → Result Status Failed
+told_of (Ok written) status = Ok status
+told_of (Err failed) status = Err failed
+
+-- the number to end with
+abbrev pub number_after : Result Status Failed → ℕ
+number_after (Ok status) = number_of status
+number_after (Err failed) = number_of SinkFault

@@ -1,5 +1,5 @@
 -- The script: which tokens spell which steps, and which requests they name.
-use Rattle.std.specs.Prelude.{◌≡◌, ℕ, ◌≤◌, codes, map, List, [], ◌∷◌, Option, Some, option_map}
+use Rattle.std.specs.Prelude.{◌≡◌, ℕ, ◌≤◌, codes, map, take, drop, List, [], ◌∷◌, Option, Some, None, option_map}
 use Rattle.ssi_lexer.specs.declared.token.TextEnd.{TextEnd}
 use Rattle.ssi_lexer.specs.declared.token.TextEnd.TheVariants.{Finished, Faulty}
 use Rattle.ssi_lexer.specs.declared.token.TokenKind.TheVariants.{Name}
@@ -11,8 +11,17 @@ use Rattle.ssi_run.specs.declared.script.StepTree.{StepTree}
 use Rattle.ssi_run.specs.declared.script.StepTree.TheVariants as tree
 use Rattle.ssi_run.specs.declared.script.ScriptStep.{ScriptStep}
 use Rattle.ssi_run.specs.declared.script.ScriptStep.TheVariants as step
-use Rattle.ssi_run.specs.Layouts.{characters_at, all_of}
 use Rattle.ssi_run.specs.Traces.{cycles_in}
+
+-- so many bytes of the text from one on
+abbrev pub characters_at : List ℕ → ℕ → ℕ → List ℕ
+characters_at text start len = take len (drop start text)
+
+-- all of them; nothing where one is missing
+abbrev pub all_of : {X : Type 0} → List (Option X) → Option (List X)
+all_of [] = Some []
+all_of (None ∷ others) = None
+all_of (Some x ∷ others) = option_map (λ xs. x ∷ xs) (all_of others)
 
 -- step = panel 0 Q . | cycle n .
 -- There is panel 0 alone, and at least one minor cycle is made.

@@ -1,11 +1,13 @@
 -- The statuses that the program ends with, the lines that it writes in place of a trace, and its limit.
 use Rattle.std.specs.Prelude.{ℕ, List, codes}
+use Rattle.ssi_run.specs.declared.status.Status.{Status}
+use Rattle.ssi_run.specs.declared.status.Status.TheVariants.{Done, Faulty, NoShape, SourceFault, SinkFault, NoMemory, PastLimit}
 
 -- a number for each way to end
 pub record StatusNumbers : Type 0 where
   -- all done, the input read to its end
   pub done : ℕ
-  -- the input isn't of the form that is built so far
+  -- the input has faults, or isn't of the form that is built so far
   pub faulty : ℕ
   -- the words have no known shape
   pub no_shape : ℕ
@@ -20,6 +22,16 @@ pub record StatusNumbers : Type 0 where
 
 abbrev pub statuses : StatusNumbers
 statuses = record { done = 0; faulty = 1; no_shape = 2; source_fault = 3; sink_fault = 4; no_memory = 8; past_limit = 9 }
+
+-- the number of each way to end
+abbrev pub number_of : Status → ℕ
+number_of Done = statuses.done
+number_of Faulty = statuses.faulty
+number_of NoShape = statuses.no_shape
+number_of SourceFault = statuses.source_fault
+number_of SinkFault = statuses.sink_fault
+number_of NoMemory = statuses.no_memory
+number_of PastLimit = statuses.past_limit
 
 -- how many bytes the input has at most
 abbrev pub input_limit : ℕ

@@ -4,7 +4,7 @@ ghost use Rattle.std.specs.Prelude.{◌≡◌, ◌<◌, true, false, length, cod
 ghost use Rattle.ssi_base.specs.Streams.{Writes};
 ghost use Rattle.ssi_identities.specs.DataSets.{counts_of};
 ghost use Rattle.ssi_identities.specs.Facts.{IsWithinLimits, fact_count_of};
-ghost use Rattle.ssi_run.specs.Traces.{change_text, changes_of, fact_at, fact_text};
+ghost use Rattle.ssi_run.specs.Traces.{changes_of, fact_at, fact_text};
 ghost use Rattle.ssi_run.specs.WorkedChanges.{all_are, mixed, one_of_each};
 
 use crate::pieces::write_two;
@@ -27,30 +27,27 @@ fn write_fact<K: Sink>(
     write_two(sink, b":", kind.word(value))
 }
 
-/// Writes a fact whose value differs from the one shown last, and notes it as shown.
-fn write_if_changed<K: Sink>(
+/// Writes a fact, by its number, with its value.
+#[inline(never)]
+fn write_numbered<K: Sink>(
     sink: &mut K,
     plan: &DataSet,
     fact: u16,
-    shown: &mut bool,
     value: bool,
 ) -> Result<(), Failed>
     requires limits { IsWithinLimits (counts_of plan.now) }
     requires within { fact < fact_count_of (counts_of plan.now) }
-    ensures noted { OnOk result (shown.new ≡ value) }
-    ensures writes { Writes (K.written sink.old) (K.written sink.new) (K.faults sink.old) (K.faults sink.new)
-        (change_text plan.now (fact_at (counts_of plan.now) fact) shown.old value) result }
+    ensures { Writes (K.written sink.old) (K.written sink.new) (K.faults sink.old) (K.faults sink.new)
+        (fact_text plan.now (fact_at (counts_of plan.now) fact) value) result }
 {
-    if *shown == value {
-        return Ok(());
-    }
-    *shown = value;
     let (kind, index) = fact_of(&plan.counts(), fact);
     write_fact(sink, plan, kind, index, value)
 }
 
 /// Writes each fact whose value differs from the one shown last, and notes it as shown.
 /// After an error some of them are noted.
+// Within a longer function its loop would keep its numbers in memory.
+#[inline(never)]
 pub fn write_changes<K: Sink>(
     sink: &mut K,
     plan: &DataSet,
@@ -65,7 +62,10 @@ pub fn write_changes<K: Sink>(
         (changes_of plan.now shown.old state.now) result }
 {
     for fact in 0..state.len() {
-        write_if_changed(sink, plan, fact as u16, &mut shown[fact], state[fact])?;
+        if shown[fact] != state[fact] {
+            shown[fact] = state[fact];
+            write_numbered(sink, plan, fact as u16, state[fact])?;
+        }
     }
     Ok(())
 }

@@ -10,34 +10,36 @@ mod command_line;
 #[cfg(test)]
 mod edge_tests;
 mod evaluation;
+mod fault_lines;
+mod input;
 mod interlocking;
-mod layout;
 mod output;
 mod pieces;
 mod program;
 mod refusal;
-mod rules;
+mod requests;
 mod script;
 mod status;
 #[cfg(test)]
 mod tests;
+mod text;
 mod trace;
 mod words;
 
 use crate::command_line::command_words;
 use crate::output::end_output;
 use crate::program::ssi_program;
-use crate::status::NO_MEMORY;
+use crate::status::Status;
 use ssi_base::{StdSink, StdSource};
 use std::io::{self, BufWriter};
 use std::process::ExitCode;
 
 fn main(rt: HostRuntime) -> ExitCode {
     let Ok(words) = command_words(&rt, rt.alloc()) else {
-        return ExitCode::from(NO_MEMORY);
+        return ExitCode::from(Status::NoMemory.number());
     };
     let Ok(writer) = BufWriter::new(rt.alloc(), io::writer(&rt)) else {
-        return ExitCode::from(NO_MEMORY);
+        return ExitCode::from(Status::NoMemory.number());
     };
     let mut source = StdSource::new(rt.reader());
     let mut sink = StdSink::new(writer);

@@ -6,7 +6,7 @@ ghost use Rattle.std.specs.Io.KnownBytes.{Keeps, append_known};
 ghost use Rattle.ssi_base.specs.Faults.{Rose, unbounded};
 ghost use Rattle.ssi_run.specs.Statuses.{statuses};
 
-use crate::status::SINK_FAULT;
+use crate::status::Status;
 use ssi_base::{Failed, StdSink};
 use std::io::{BufWriter, Write};
 
@@ -42,11 +42,12 @@ fn pass_on<W: Write + Drop>(sink: &mut StdSink<BufWriter<W>>, status: u8) -> u8
         ⊎ Rose (unbounded sink.old.failed) (unbounded sink.new.failed) }
     ensures no_failure { result ≢ statuses.sink_fault → sink.new.failed ≡ sink.old.failed }
 {
-    if status == SINK_FAULT {
-        return SINK_FAULT;
+    let failed = Status::SinkFault.number();
+    if status == failed {
+        return failed;
     }
     match sink.flush() {
         Ok(()) => status,
-        Err(Failed) => SINK_FAULT,
+        Err(Failed) => failed,
     }
 }

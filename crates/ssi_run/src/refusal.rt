@@ -1,30 +1,15 @@
-//! Why an input isn't run.
+//! Why a script isn't run.
 
 use ssi_base::OutOfMemory;
 use ssi_lexer::Stop;
-use ssi_terms::ReadFault;
 use std::alloc::{AllocError, AllocFailed};
 
-/// Why an input isn't run: `Later` where it is of no form that is built so far, `Memory` where memory ran
+/// Why a script isn't run: `Later` where it is of no form that is built so far, `Memory` where memory ran
 /// out.
 #[derive(Clone, Copy, Debug, PartialEq, Eq)]
 pub enum Refusal {
     Later,
     Memory,
-}
-
-impl From<ReadFault> for Refusal {
-    ghost use Rattle.std.specs.Prelude.{◌≡◌};
-    ghost use Rattle.ssi_run.specs.Refusals.{refusal_of_fault};
-
-    ghost from_gives = { λ fault refusal. refusal ≡ refusal_of_fault fault };
-
-    fn from(fault: ReadFault) -> Refusal {
-        match fault {
-            ReadFault::Later => Refusal::Later,
-            ReadFault::Memory => Refusal::Memory,
-        }
-    }
 }
 
 impl From<Stop> for Refusal {

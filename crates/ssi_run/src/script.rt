@@ -13,7 +13,7 @@ ghost use Rattle.ssi_run.specs.Traces.{cycles_of as count_of_step};
 ghost use Rattle.ssi_run.specs.declared.script.ScriptStep.{ScriptStep as Step};
 
 use crate::refusal::Refusal;
-use crate::rules::characters;
+use crate::text::characters;
 use ssi_identities::{Kind, Names};
 use ssi_lexer::{Part, Stop, TextEnd, Token, TokenKind, Tokens, Wanted};
 use std::alloc::Global;
@@ -161,7 +161,8 @@ fn steps(
     names: &Names,
 ) -> Result<Vec<ScriptStep>, Refusal>
     ensures found { IfOk result (λ steps. AreSteps text.now (names_of names.now Request) steps.items tokens.old.left tokens.old.end) }
-    ensures later { result ≡ Err Refusal.Later → (steps : List Step) → ¬ AreSteps text.now (names_of names.now Request) steps tokens.old.left tokens.old.end }
+    ensures later { result ≡ Err Refusal.Later → (steps : List Step)
+        → ¬ AreSteps text.now (names_of names.now Request) steps tokens.old.left tokens.old.end }
 {
     let mut steps = Vec::new(alloc);
     let mut cycles = 0;
@@ -201,7 +202,8 @@ pub fn read_script(
     names: &Names,
 ) -> Result<Vec<ScriptStep>, Refusal>
     ensures found { IfOk result (λ steps. IsScript text.now (names_of names.now Request) steps.items tokens.old.left tokens.old.end) }
-    ensures later { result ≡ Err Refusal.Later → (steps : List Step) → ¬ IsScript text.now (names_of names.now Request) steps tokens.old.left tokens.old.end }
+    ensures later { result ≡ Err Refusal.Later → (steps : List Step)
+        → ¬ IsScript text.now (names_of names.now Request) steps tokens.old.left tokens.old.end }
 {
     header(tokens)?;
     steps(alloc, text, tokens, names)

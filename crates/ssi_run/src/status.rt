@@ -1,22 +1,53 @@
 //! The statuses that the program ends with.
 
-/// All done, the input read to its end.
-pub const DONE: u8 = 0;
+ghost use Rattle.std.specs.Prelude.{◌≡◌};
+ghost use Rattle.ssi_run.specs.Outcomes.{told_of};
+ghost use Rattle.ssi_run.specs.Statuses.{number_of};
 
-/// The input isn't of the form that is built so far.
-pub const FAULTY: u8 = 1;
+use ssi_base::Failed;
 
-/// The words have no known shape; nothing was read.
-pub const NO_SHAPE: u8 = 2;
+/// How the program ends.
+#[derive(Clone, Copy, Debug, PartialEq, Eq)]
+pub enum Status {
+    /// All done, the input read to its end.
+    Done,
+    /// The input has faults, or isn't of the form that is built so far.
+    Faulty,
+    /// The words have no known shape; nothing was read.
+    NoShape,
+    /// Reading failed; nothing was written.
+    SourceFault,
+    /// Writing failed; a part of the output was written.
+    SinkFault,
+    /// Memory ran out; nothing was written.
+    NoMemory,
+    /// The input has more than 2,097,152 bytes.
+    PastLimit,
+}
 
-/// Reading failed; nothing was written.
-pub const SOURCE_FAULT: u8 = 3;
+impl Status {
+    /// The number that the system is given.
+    pub fn number(self) -> u8
+        ensures { result ≡ number_of self }
+    {
+        match self {
+            Status::Done => 0,
+            Status::Faulty => 1,
+            Status::NoShape => 2,
+            Status::SourceFault => 3,
+            Status::SinkFault => 4,
+            Status::NoMemory => 8,
+            Status::PastLimit => 9,
+        }
+    }
+}
 
-/// Writing failed; a part of the output was written.
-pub const SINK_FAULT: u8 = 4;
-
-/// Memory ran out; nothing was written.
-pub const NO_MEMORY: u8 = 8;
-
-/// The input has more than 2,097,152 bytes.
-pub const PAST_LIMIT: u8 = 9;
+/// The status of what was written, unless writing failed.
+pub fn told(written: Result<(), Failed>, status: Status) -> Result<Status, Failed>
+    ensures { result ≡ told_of written status }
+{
+    match written {
+        Ok(()) => Ok(status),
+        Err(Failed) => Err(Failed),
+    }
+}

@@ -16,7 +16,7 @@ const FLAGS: &str =
 /// What is written where the words have no known shape.
 const USAGE: &[u8] = b"usage: ssi check | compile | run [--last n] | exec | yard n\n";
 
-/// What is written for an input of another form.
+/// What is written for a script or a layout that isn't run yet.
 const LATER: &[u8] = b"fault later\n";
 
 /// What is written for an input past the limit.
@@ -113,17 +113,58 @@ fn bodies_act_item_by_item(rt: HostRuntime) -> Result<(), Fail> {
     Ok(())
 }
 
+/// A layout in which points, a signal, a track, a sub-route and two modules have faults.
+const FIVE_FAULTS: &str =
+    "file PTS\nP1 over T1 .\nfile SIG\nS1 .\nfile TCS\nT1 .\nfile RTE\nfile SUB\nU1 on T2 with P1 cr, P1 cn .\nfile FLG\nfile TFM\n1 points P1 at 0 .\n64 track T1 at 8 .\nfile PRR\nfile PFM\nfile FOP\nfile OPT\nfile IPT\n";
+
+/// The flags of which one is declared twice, and a request of a wrong word and an unknown flag.
+const THREE_FAULTS: &str =
+    "file PTS\nfile SIG\nfile TCS\nfile RTE\nfile SUB\nfile FLG\nL1 .\nL1 .\nfile TFM\nfile PRR\nQ1 if L1 c then L7 s end .\nQ2 L1 s .\nfile PFM\nfile FOP\nfile OPT\nfile IPT\n";
+
+/// A layout of one flag with this name, on line 7.
+fn layout_of_flag(alloc: Global, name: &str) -> Result<String, Fail> {
+    Ok(format!(in alloc;
+        "file PTS\nfile SIG\nfile TCS\nfile RTE\nfile SUB\nfile FLG\n{name} .\nfile TFM\nfile PRR\nfile PFM\nfile FOP\nfile OPT\nfile IPT\n"
+    )?)
+}
+
 #[test]
-fn other_inputs_are_told_later(rt: HostRuntime) -> Result<(), Fail> {
+fn every_fault_of_a_layout_is_listed(rt: HostRuntime) -> Result<(), Fail> {
     let alloc = rt.alloc();
-    let twice = layout_with(alloc, "L1 s . Q1 L2 s")?;
-    let unknown = layout_with(alloc, "L3 s")?;
     let nested = layout_with(
         alloc,
         "if L1 xs then L1 s, if L1 s then L2 s else L1 xs end end",
     )?;
-    let two_flags =
-        "file PTS file SIG file TCS file RTE file SUB file FLG L1 . L1 . file TFM file PRR file PFM file FOP file OPT file IPT ";
+    let long = layout_of_flag(alloc, "LAAAAAAAAAAAAAAAA")?;
+    let cases = [
+        (
+            FIVE_FAULTS,
+            "fault 4:1 N8 S1\nfault 9:7 N1 T2\nfault 9:22 N12 P1\nfault 13:1 N7 64\nfault 13:16 N7 8\n",
+        ),
+        (
+            THREE_FAULTS,
+            "fault 8:1 N2 L1\nfault 11:10 N3 c\nfault 11:17 N1 L7\n",
+        ),
+        (long.as_str(), "fault 7:1 L2\n"),
+        // An `if` in an `if` is no spelling yet.
+        (nested.as_str(), "fault 1:106 S1\n"),
+        ("file PTS", "fault 1:9 S1\n"),
+        ("file PTS file SIG #", "fault 1:19 L1\n"),
+        ("", "fault 1:1 S1\n"),
+    ];
+    for (layout, output) in cases {
+        let (status, written) = run(alloc, layout, "")?;
+        assert_eq!(rt; status, 1, "{layout}");
+        assert_eq!(rt; written.as_slice(), output.as_bytes(), "{layout}");
+    }
+    Ok(())
+}
+
+#[test]
+fn other_scripts_are_told_later(rt: HostRuntime) -> Result<(), Fail> {
+    let alloc = rt.alloc();
+    let wired =
+        "file PTS file SIG file TCS T1 . file RTE file SUB file FLG file TFM 5 track T1 at 0 . file PRR file PFM file FOP file OPT file IPT ";
     let cases = [
         (FLAGS, "file RUN panel 1 Q1 ."),
         (FLAGS, "file RUN panel 0 Q3 ."),
@@ -134,13 +175,9 @@ fn other_inputs_are_told_later(rt: HostRuntime) -> Result<(), Fail> {
         (FLAGS, "file RUN cycle 1"),
         (FLAGS, "file RUN cycle 1 . \u{e9}"),
         (FLAGS, "file RUM cycle 1 ."),
-        (FLAGS, "cycle 1 ."),
         (FLAGS, ""),
-        ("file PTS", ""),
-        (twice.as_str(), "file RUN cycle 1 ."),
-        (unknown.as_str(), "file RUN cycle 1 ."),
-        (nested.as_str(), "file RUN cycle 1 ."),
-        (two_flags, "file RUN cycle 1 ."),
+        // A layout with a module isn't run yet.
+        (wired, "file RUN cycle 1 ."),
     ];
     for (layout, script) in cases {
         let (status, written) = run(alloc, layout, script)?;
@@ -151,16 +188,11 @@ fn other_inputs_are_told_later(rt: HostRuntime) -> Result<(), Fail> {
 }
 
 #[test]
-fn names_have_sixteen_characters_at_most(rt: HostRuntime) -> Result<(), Fail> {
-    let alloc = rt.alloc();
-    let cases = [("LAAAAAAAAAAAAAAA", 0), ("LAAAAAAAAAAAAAAAA", 1)];
-    for (name, expected) in cases {
-        let layout = format!(in alloc;
-            "file PTS file SIG file TCS file RTE file SUB file FLG {name} . file TFM file PRR file PFM file FOP file OPT file IPT file RUN"
-        )?;
-        let (status, _) = run(alloc, layout.as_str(), "")?;
-        assert_eq!(rt; status, expected, "{name}");
-    }
+fn longest_name(rt: HostRuntime) -> Result<(), Fail> {
+    let layout = layout_of_flag(rt.alloc(), "LAAAAAAAAAAAAAAA")?;
+    let (status, written) = run(rt.alloc(), layout.as_str(), "file RUN cycle 1 .")?;
+    assert_eq!(rt; status, 0);
+    assert_eq!(rt; written.as_slice(), b"0 - - -\n".as_slice());
     Ok(())
 }
 
@@ -187,8 +219,8 @@ fn flags_and_requests_at_their_limits(rt: HostRuntime) -> Result<(), Fail> {
     let script = "file RUN panel 0 Q0 . cycle 1 .";
     let cases = [
         (512, 1024, 0, b"0 - - 0:Q0 L0:s\n".as_slice()),
-        (513, 1, 1, LATER),
-        (1, 1025, 1, LATER),
+        (513, 1, 1, b"fault 1:3529 N11 L512\n".as_slice()),
+        (1, 1025, 1, b"fault 1:12280 N11 Q1024\n".as_slice()),
     ];
     for (flags, requests, expected, output) in cases {
         let layout = layout_of(alloc, flags, requests)?;
@@ -264,7 +296,10 @@ fn words_without_a_shape_read_nothing(rt: HostRuntime) -> Result<(), Fail> {
 #[test]
 fn input_past_the_limit(rt: HostRuntime) -> Result<(), Fail> {
     let alloc = rt.alloc();
-    let cases = [(2_097_152, 1, LATER), (2_097_153, 9, TOO_LARGE)];
+    let cases = [
+        (2_097_152, 1, b"fault 1:2097153 S1\n".as_slice()),
+        (2_097_153, 9, TOO_LARGE),
+    ];
     for (bytes, expected, output) in cases {
         let (status, written) = answer(alloc, &["run"], vec![in alloc; b' '; bytes]?)?;
         assert_eq!(rt; status, expected, "{bytes}");

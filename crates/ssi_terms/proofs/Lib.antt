@@ -1,1 +1,3 @@
-pub mod FirstFiles
+pub mod FileHeaders
+pub mod Endings
+pub mod IdentityFiles

@@ -1,11 +1,9 @@
 -- The grammar: which tokens spell which tree, one constructor for each rule. Lists, repetitions and options are those
 -- of the reader of tokens: Listed is x { , x }, Repeated is { x }, Optional is [ x ].
-use Rattle.std.specs.Prelude.{◌≡◌, ℕ, codes, List, [], ◌∷◌, ◌++◌, Option}
-use Rattle.ssi_lexer.specs.declared.token.TextEnd.{TextEnd}
-use Rattle.ssi_lexer.specs.declared.token.TextEnd.TheVariants.{Finished, Faulty}
+use Rattle.std.specs.Prelude.{ℕ, codes, List, [], ◌∷◌, ◌++◌, Option}
 use Rattle.ssi_lexer.specs.Lexemes.{Lexeme}
 use Rattle.ssi_lexer.specs.TokenTests.{Is, word, name, dot}
-use Rattle.ssi_lexer.specs.Languages.{Listed, Repeated, Optional}
+use Rattle.ssi_lexer.specs.Languages.{Listed, Optional}
 use Rattle.ssi_terms.specs.declared.tree.Spot.{Spot}
 use Rattle.ssi_terms.specs.declared.tree.ItemTree.{ItemTree}
 use Rattle.ssi_terms.specs.declared.tree.ItemTree.TheVariants as i
@@ -13,20 +11,19 @@ use Rattle.ssi_terms.specs.declared.tree.CondTree.{CondTree}
 use Rattle.ssi_terms.specs.declared.tree.PartTree.{PartTree}
 use Rattle.ssi_terms.specs.declared.tree.PartTree.TheVariants as p
 use Rattle.ssi_terms.specs.declared.tree.BodyTree.{BodyTree}
-use Rattle.ssi_terms.specs.Trees.{FirstFiles}
-use Rattle.ssi_terms.specs.Tests.{spot_of, flag, request, flag_word}
+use Rattle.ssi_terms.specs.Tests.{spot_of, any_identity, request, rule_word}
 
--- item = L s | L xs
+-- item = X word, where X is a name of any kind but Q
 pub data SpellsItem : ItemTree → List Lexeme → Type 0 where
-  a_test : (n w : Lexeme) → Is flag n → Is flag_word w → SpellsItem (i.Test (spot_of n) (spot_of w)) (n ∷ w ∷ [])
+  a_test : (n w : Lexeme) → Is any_identity n → Is rule_word w → SpellsItem (i.Test (spot_of n) (spot_of w)) (n ∷ w ∷ [])
 
 -- cond = item { , item }
 abbrev pub SpellsCond : CondTree → List Lexeme → Type 0
 SpellsCond cond = Listed ItemTree SpellsItem cond.items
 
--- command = L s | L xs
+-- command = X word
 pub data SpellsCommand : PartTree → List Lexeme → Type 0 where
-  a_command : (n w : Lexeme) → Is flag n → Is flag_word w → SpellsCommand (p.Do (record { name = spot_of n; word = spot_of w })) (n ∷ w ∷ [])
+  a_command : (n w : Lexeme) → Is any_identity n → Is rule_word w → SpellsCommand (p.Do (record { name = spot_of n; word = spot_of w })) (n ∷ w ∷ [])
 
 -- commands = command { , command }
 abbrev pub SpellsCommands : BodyTree → List Lexeme → Type 0
@@ -47,10 +44,6 @@ pub data SpellsPart : PartTree → List Lexeme → Type 0 where
 abbrev pub SpellsBody : BodyTree → List Lexeme → Type 0
 SpellsBody body = Listed PartTree SpellsPart body.parts
 
--- an entry of FLG = L .
-pub data SpellsFlag : Spot → List Lexeme → Type 0 where
-  a_flag : (n d : Lexeme) → Is flag n → Is dot d → SpellsFlag (spot_of n) (n ∷ d ∷ [])
-
 -- an entry of PRR = Q body .
 pub data SpellsRequest : Spot × BodyTree → List Lexeme → Type 0 where
   a_request : (n d : Lexeme) (body : BodyTree) (u : List Lexeme) → Is request n → SpellsBody body u → Is dot d → SpellsRequest (spot_of n, body) (n ∷ (u ++ (d ∷ [])))
@@ -60,42 +53,3 @@ pub data SpellsHeaders : List (List ℕ) → List Lexeme → Type 0 where
   no_header : SpellsHeaders [] []
   a_header : (f n : Lexeme) (file : List ℕ) (files : List (List ℕ)) (u : List Lexeme) → Is (word (codes "file")) f → Is (name file) n
       → SpellsHeaders files u → SpellsHeaders (file ∷ files) (f ∷ n ∷ u)
-
--- the files in their order, up to that of the flags
-abbrev pub files_to_flags : List (List ℕ)
-files_to_flags = codes "PTS" ∷ codes "SIG" ∷ codes "TCS" ∷ codes "RTE" ∷ codes "SUB" ∷ codes "FLG" ∷ []
-
--- those after it, up to that of the requests
-abbrev pub files_to_requests : List (List ℕ)
-files_to_requests = codes "TFM" ∷ codes "PRR" ∷ []
-
--- those after it
-abbrev pub files_to_end : List (List ℕ)
-files_to_end = codes "PFM" ∷ codes "FOP" ∷ codes "OPT" ∷ codes "IPT" ∷ []
-
--- the twelve files, with entries under FLG and PRR alone
-pub record SpellsFirst (tree : FirstFiles) (tokens : List Lexeme) : Type 0 where
-  pub before : List Lexeme
-  pub flags : List Lexeme
-  pub between : List Lexeme
-  pub requests : List Lexeme
-  pub after : List Lexeme
-  pub parts : tokens ≡ before ++ (flags ++ (between ++ (requests ++ after)))
-  pub before_is : SpellsHeaders files_to_flags before
-  pub flags_are : Repeated Spot SpellsFlag tree.flags flags
-  pub between_is : SpellsHeaders files_to_requests between
-  pub requests_are : Repeated (Spot × BodyTree) SpellsRequest tree.requests requests
-  pub after_is : SpellsHeaders files_to_end after
-
--- `file` comes next, or the end of the text
-abbrev pub EndsFiles : List Lexeme → TextEnd → Type 0
-EndsFiles [] (Finished place) = Unit {0}
-EndsFiles [] (Faulty fault) = ⊥
-EndsFiles (lexeme ∷ lexemes) end = Is (word (codes "file")) lexeme
-
--- the tokens begin with twelve files that spell the tree, and `file` or the end of the text follows
-pub record BeginsFirst (tree : FirstFiles) (left rest : List Lexeme) (end : TextEnd) : Type 0 where
-  pub used : List Lexeme
-  pub parts : left ≡ used ++ rest
-  pub spells : SpellsFirst tree used
-  pub ends : EndsFiles rest end

@@ -1,5 +1,9 @@
 pub mod Trees
 pub mod Tests
 pub mod Grammar
+pub mod Identities
 pub mod Read
+pub mod ReadIdentities
+pub mod Ending
 pub mod Rules
+pub mod IdentityRules

@@ -12,7 +12,7 @@ use Rattle.ssi_lexer.proofs.OneToken.{good_tok}
 use Rattle.ssi_lexer.proofs.Joining.{Both, both, good_both, good_mapped, good_as}
 use Rattle.ssi_lexer.proofs.Choosing.{Without, OneOf, the_one, the_other, good_maybe, good_either}
 use Rattle.ssi_lexer.proofs.Listing.{good_separated}
-use Rattle.ssi_lexer.proofs.Starting.{some_token, some_word, word_not_comma, dot_not_comma, identity_not_word, other_word, lacks_after, without_after, starts_one, starts_both}
+use Rattle.ssi_lexer.proofs.Starting.{some_token, some_word, word_not_comma, dot_not_comma, identity_not_word, other_word, lacks_after, without_after, starts_one, starts_both, good_dot}
 use Rattle.ssi_terms.specs.declared.tree.Spot.{Spot}
 use Rattle.ssi_terms.specs.declared.tree.ItemTree.{ItemTree}
 use Rattle.ssi_terms.specs.declared.tree.ItemTree.TheVariants as i
@@ -20,15 +20,12 @@ use Rattle.ssi_terms.specs.declared.tree.CondTree.{CondTree}
 use Rattle.ssi_terms.specs.declared.tree.PartTree.{PartTree}
 use Rattle.ssi_terms.specs.declared.tree.PartTree.TheVariants as p
 use Rattle.ssi_terms.specs.declared.tree.BodyTree.{BodyTree}
-use Rattle.ssi_terms.specs.Tests.{spot_at, spot_of, flag, request, flag_word}
-use Rattle.ssi_terms.specs.Grammar.{SpellsItem, a_test, SpellsCommand, a_command, SpellsCommands, SpellsElse, an_else, SpellsPart, a_do, an_if, SpellsBody, SpellsFlag, a_flag, SpellsRequest, a_request}
+use Rattle.ssi_terms.specs.Tests.{spot_at, spot_of, any_identity, request, rule_word}
+use Rattle.ssi_terms.specs.Identities.{SpotOf, spot_is}
+use Rattle.ssi_terms.specs.Grammar.{SpellsItem, a_test, SpellsCommand, a_command, SpellsCommands, SpellsElse, an_else, SpellsPart, a_do, an_if, SpellsBody, SpellsRequest, a_request}
 use Rattle.ssi_terms.specs.Read as spec
 
 -- ---- one token
-
--- the place of a token that passes the test
-pub data SpotOf (test : Lexeme → Bool) : Spot → List Lexeme → Type 0 where
-  spot_is : (t : Lexeme) → Is test t → SpotOf test (spot_of t) (t ∷ [])
 
 module _ (test : Lexeme → Bool) (some : Lexeme) (some_is : Is test some) where
   to_spot : (x : Token) (u : List Lexeme) → One test x u → SpotOf test (spot_at x) u
@@ -44,25 +41,22 @@ module _ (test : Lexeme → Bool) (some : Lexeme) (some_is : Is test some) where
 pub starts_spot : (test : Lexeme → Bool) (x : Spot) (u : List Lexeme) → SpotOf test x u → StartsWith test u
 starts_spot test x u (spot_is t e) = record { first = t; others = []; parts = refl; passes = e }
 
-good_word : (letters : List ℕ) → Good Token (tok (word letters)) (One (word letters)) Always Always
+pub good_word : (letters : List ℕ) → Good Token (tok (word letters)) (One (word letters)) Always Always
 good_word letters = good_tok (word letters) (some_token k.Word letters) (some_word letters)
 
-pub good_dot : Good Token (tok dot) (One dot) Always Always
-good_dot = good_tok dot (some_token k.Dot []) refl
+good_any_identity : Good Spot (spec.spot any_identity) (SpotOf any_identity) Always Always
+good_any_identity = good_spot any_identity (some_token k.Name (codes "L1")) refl
 
-good_flag_name : Good Spot (spec.spot flag) (SpotOf flag) Always Always
-good_flag_name = good_spot flag (some_token k.Name (codes "L1")) refl
-
-good_flag_word : Good Spot (spec.spot flag_word) (SpotOf flag_word) Always Always
-good_flag_word = good_spot flag_word (some_token k.Word (codes "s")) refl
+good_rule_word : Good Spot (spec.spot rule_word) (SpotOf rule_word) Always Always
+good_rule_word = good_spot rule_word (some_token k.Word (codes "s")) refl
 
 -- ---- items and commands
 
 abbrev Pair : Spot × Spot → List Lexeme → Type 0
-Pair = Both Spot Spot (SpotOf flag) (SpotOf flag_word)
+Pair = Both Spot Spot (SpotOf any_identity) (SpotOf rule_word)
 
-good_pair : Good (Spot × Spot) (spec.spot flag & spec.spot flag_word) Pair Always Always
-good_pair = good_both Spot Spot (spec.spot flag) (spec.spot flag_word) (SpotOf flag) (SpotOf flag_word) Always Always Always Always (λ y v rest t k. tt) good_flag_name good_flag_word
+good_pair : Good (Spot × Spot) (spec.spot any_identity & spec.spot rule_word) Pair Always Always
+good_pair = good_both Spot Spot (spec.spot any_identity) (spec.spot rule_word) (SpotOf any_identity) (SpotOf rule_word) Always Always Always Always (λ y v rest t k. tt) good_any_identity good_rule_word
 
 to_item : (x : Spot × Spot) (u : List Lexeme) → Pair x u → SpellsItem (i.Test x.0 x.1) u
 to_item x u (both a b v w (spot_is n e) (spot_is m h)) = a_test n m e h
@@ -72,7 +66,7 @@ from_item y u (a_test n m e h) = ((spot_of n, spot_of m), refl, both (spot_of n)
 
 pub good_item : Good ItemTree spec.item SpellsItem Always Always
 unfolding spec.item
-good_item = good_mapped (Spot × Spot) ItemTree (λ x. i.Test x.0 x.1) (spec.spot flag & spec.spot flag_word) Pair SpellsItem Always Always to_item from_item good_pair
+good_item = good_mapped (Spot × Spot) ItemTree (λ x. i.Test x.0 x.1) (spec.spot any_identity & spec.spot rule_word) Pair SpellsItem Always Always to_item from_item good_pair
 
 to_command : (x : Spot × Spot) (u : List Lexeme) → Pair x u → SpellsCommand (p.Do (record { name = x.0; word = x.1 })) u
 to_command x u (both a b v w (spot_is n e) (spot_is m h)) = a_command n m e h
@@ -82,9 +76,9 @@ from_command y u (a_command n m e h) = ((spot_of n, spot_of m), refl, both (spot
 
 pub good_command : Good PartTree spec.command SpellsCommand Always Always
 unfolding spec.command
-good_command = good_mapped (Spot × Spot) PartTree (λ x. p.Do (record { name = x.0; word = x.1 })) (spec.spot flag & spec.spot flag_word) Pair SpellsCommand Always Always to_command from_command good_pair
+good_command = good_mapped (Spot × Spot) PartTree (λ x. p.Do (record { name = x.0; word = x.1 })) (spec.spot any_identity & spec.spot rule_word) Pair SpellsCommand Always Always to_command from_command good_pair
 
-command_starts : (x : PartTree) (u : List Lexeme) → SpellsCommand x u → StartsWith flag u
+command_starts : (x : PartTree) (u : List Lexeme) → SpellsCommand x u → StartsWith any_identity u
 command_starts x u (a_command n w e h) = record { first = n; others = w ∷ []; parts = refl; passes = e }
 
 -- a list ends where no comma comes
@@ -216,7 +210,7 @@ if_starts : (x : PartTree) (u : List Lexeme) → SpellsIf x u → StartsWith is_
 if_starts x u (the_if o m e guard body other v w z h s j c d f) = record { first = o; others = _; parts = refl; passes = h }
 
 command_no_if : (x : PartTree) (u rest : List Lexeme) → SpellsCommand x u → Always rest → Lacks is_if (u ++ rest)
-command_no_if x u rest s k = lacks_after flag is_if u rest (command_starts x u s) (λ t e. identity_not_word (codes "L") (codes "if") t e)
+command_no_if x u rest s k = lacks_after any_identity is_if u rest (command_starts x u s) (λ t e. identity_not_word (codes "PSTRUL") (codes "if") t e)
 
 to_part : (x : PartTree) (u : List Lexeme) → OneOf PartTree SpellsIf SpellsCommand x u → SpellsPart x u
 to_part x u (the_one y v (the_if o m e guard body other a b c h s j d f g)) = an_if o m e guard body other a b c h s j d f g
@@ -239,24 +233,6 @@ good_body =
     (good_separated PartTree spec.part SpellsPart Always Always (λ ts e. tt) good_part)
 
 -- ---- entries
-
-abbrev FlagText : Spot × Token → List Lexeme → Type 0
-FlagText = Both Spot Token (SpotOf flag) (One dot)
-
-to_flag : (x : Spot × Token) (u : List Lexeme) → FlagText x u → SpellsFlag x.0 u
-to_flag x u (both a b v w (spot_is n e) (one d h)) = a_flag n d e h
-
-from_flag : (y : Spot) (u : List Lexeme) → SpellsFlag y u → (x : Spot × Token) × (y ≡ x.0) × FlagText x u
-from_flag y u (a_flag n d e h) = ((spot_of n, token_of d), refl, both (spot_of n) (token_of d) (n ∷ []) (d ∷ []) (spot_is n e) (one d h))
-
-pub good_flag_entry : Good Spot spec.flag_entry SpellsFlag Always Always
-unfolding spec.flag_entry
-good_flag_entry =
-    good_mapped (Spot × Token) Spot (λ x. x.0) (spec.spot flag & tok dot) FlagText SpellsFlag Always Always to_flag from_flag
-    (good_both Spot Token (spec.spot flag) (tok dot) (SpotOf flag) (One dot) Always Always Always Always (λ y v rest t k. tt) good_flag_name good_dot)
-
-pub flag_starts : (x : Spot) (u : List Lexeme) → SpellsFlag x u → StartsWith flag u
-flag_starts x u (a_flag n d e h) = record { first = n; others = d ∷ []; parts = refl; passes = e }
 
 dot_ends : (y : Token) (v rest : List Lexeme) → One dot y v → Always rest → ListEnds (v ++ rest)
 dot_ends y v rest t k = without_after dot comma v rest (starts_one dot y v t) (λ s h. dot_not_comma s h)

@@ -7,13 +7,13 @@ ghost use Rattle.ssi_lexer.specs.TokenTests.{word};
 ghost use Rattle.ssi_terms.specs.Read as spec;
 
 use crate::conditions::Item;
-use crate::spots::{flag_word, identity, token};
+use crate::spots::{any_identity, rule_word, token};
 use crate::tree::{BodyTree, CommandTree, CondTree, PartTree};
 use sqlite_items::Items;
 use ssi_lexer::{Part, Stop, Tokens, Wanted, separated};
 use std::alloc::Global;
 
-/// A command: a flag's name and the word for its new value.
+/// A command: a name of any kind but a request's, and the word for its new state.
 pub struct Command;
 
 impl Part for Command {
@@ -31,8 +31,8 @@ impl Part for Command {
 
     #[tactic(auto, unfolding(crate::specs::Read::command))]
     fn read(&self, _alloc: Global, tokens: &mut Tokens<'_>) -> Result<PartTree, Stop> {
-        let name = identity(tokens, b"L")?;
-        let word = flag_word(tokens)?;
+        let name = any_identity(tokens)?;
+        let word = rule_word(tokens)?;
         Ok(PartTree::Do(CommandTree { name, word }))
     }
 }

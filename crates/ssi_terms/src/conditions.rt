@@ -2,12 +2,12 @@
 
 ghost use Rattle.ssi_terms.specs.Read as spec;
 
-use crate::spots::{flag_word, identity};
+use crate::spots::{any_identity, rule_word};
 use crate::tree::ItemTree;
 use ssi_lexer::{Part, Stop, Tokens};
 use std::alloc::Global;
 
-/// An item of a condition: a flag's name and the word for its value.
+/// An item of a condition: a name of any kind but a request's, and the word that is to hold of it.
 pub struct Item;
 
 impl Part for Item {
@@ -25,8 +25,8 @@ impl Part for Item {
 
     #[tactic(auto, unfolding(crate::specs::Read::item))]
     fn read(&self, _alloc: Global, tokens: &mut Tokens<'_>) -> Result<ItemTree, Stop> {
-        let name = identity(tokens, b"L")?;
-        let word = flag_word(tokens)?;
+        let name = any_identity(tokens)?;
+        let word = rule_word(tokens)?;
         Ok(ItemTree::Test { name, word })
     }
 }

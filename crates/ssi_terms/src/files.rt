@@ -1,52 +1,16 @@
 //! Reads headers of files, and entries.
 
 ghost use Rattle.std.specs.Prelude.{◌≡◌};
-ghost use Rattle.ssi_lexer.specs.Parsers.{Reads};
+ghost use Rattle.ssi_lexer.specs.Parsers.{Reads, ReadsAll};
 ghost use Rattle.ssi_lexer.specs.Readings.{GoesOn};
 ghost use Rattle.ssi_terms.specs.Read as spec;
+ghost use Rattle.ssi_terms.specs.ReadIdentities.{file as file_of};
 
 use crate::bodies::body;
 use crate::spots::{dot, identity, token};
 use crate::tree::{BodyTree, Spot};
-use ssi_lexer::{Entry, Part, Stop, Tokens, Wanted};
+use ssi_lexer::{Entry, Part, Stop, Tokens, Wanted, entries};
 use std::alloc::Global;
-
-/// An entry of FLG: a flag's name and `.`.
-pub struct FlagEntry;
-
-impl Part for FlagEntry {
-    type Tree = Spot;
-
-    ghost use Rattle.ssi_terms.specs.Grammar.{SpellsFlag};
-    ghost use Rattle.ssi_terms.specs.Read.{flag_entry};
-    ghost use Rattle.ssi_terms.specs.Rules.{good_flag_entry};
-
-    ghost language = { λ _. SpellsFlag };
-
-    ghost parser = { λ _. flag_entry };
-
-    ghost good = { λ _. good_flag_entry };
-
-    #[tactic(auto, unfolding(crate::specs::Read::flag_entry))]
-    fn read(&self, _alloc: Global, tokens: &mut Tokens<'_>) -> Result<Spot, Stop> {
-        let name = identity(tokens, b"L")?;
-        dot(tokens)?;
-        Ok(name)
-    }
-}
-
-impl Entry for FlagEntry {
-    ghost use Rattle.ssi_terms.specs.Tests.{flag};
-    ghost use Rattle.ssi_terms.specs.Rules.{flag_starts};
-
-    ghost opens = { λ _. flag };
-
-    ghost starts = { λ _. flag_starts };
-
-    fn begins(&self, tokens: &Tokens<'_>) -> bool {
-        tokens.sees(Wanted::Identity(b"L"))
-    }
-}
 
 /// An entry of PRR: a request's name, its body and `.`.
 pub struct RequestEntry;
@@ -86,9 +50,9 @@ impl Entry for RequestEntry {
     }
 }
 
-/// Reads a header: `file` and this name.
+/// Reads a header: `file` and this name. For readers of the layers above, as [`headers`].
 #[tactic(auto, unfolding(crate::specs::Read::header))]
-fn header(tokens: &mut Tokens<'_>, file: &[u8]) -> Result<(), Stop>
+pub fn header(tokens: &mut Tokens<'_>, file: &[u8]) -> Result<(), Stop>
     ensures reads { Reads (spec.header file.now tokens.old.left) result tokens.new.left }
     ensures goes_on { GoesOn tokens.old tokens.new }
 {
@@ -97,7 +61,7 @@ fn header(tokens: &mut Tokens<'_>, file: &[u8]) -> Result<(), Stop>
     Ok(())
 }
 
-/// Reads the headers of these files, one after another.
+/// Reads the headers of these files, one after another; by `good_headers` it reads `SpellsHeaders`.
 pub fn headers(tokens: &mut Tokens<'_>, files: &[[u8; 3]]) -> Result<(), Stop>
     ensures reads { Reads (spec.headers files.now tokens.old.left) result tokens.new.left }
     ensures goes_on { GoesOn tokens.old tokens.new }
@@ -106,4 +70,20 @@ pub fn headers(tokens: &mut Tokens<'_>, files: &[[u8; 3]]) -> Result<(), Stop>
         header(tokens, file)?;
     }
     Ok(())
+}
+
+/// Reads a file: its header and its entries. For readers of the layers above; by `good_file` it reads
+/// `SpellsFile`.
+#[tactic(auto, unfolding(crate::specs::ReadIdentities::file))]
+pub fn file<E: Entry>(
+    alloc: Global,
+    tokens: &mut Tokens<'_>,
+    name: &[u8],
+    entry: &E,
+) -> Result<Vec<E::Tree>, Stop>
+    ensures reads { ReadsAll (file_of name.now (E.opens entry.now) (E.Part.parser entry.now) tokens.old.left) result tokens.new.left }
+    ensures goes_on { GoesOn tokens.old tokens.new }
+{
+    header(tokens, name)?;
+    entries(entry, alloc, tokens)
 }

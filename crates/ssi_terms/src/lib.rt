@@ -1,20 +1,33 @@
 //! Trees of the source, read from its tokens.
 //!
-//! The layer above may rely on [`read_first`]: it answers the tree that the tokens spell, or that they
-//! begin with no twelve files of the form that is read so far. It stands on `ssi_lexer` for tokens and for
-//! what readers have in common.
+//! The layer above may rely on [`read_identities`]: it answers the tree of the files of identities that
+//! the tokens spell, or the first fault of the text, lexical or of syntax, at its exact place. A layer
+//! that reads further files composes its reader of [`identity_files`], [`headers`], [`file`](fn@file) with
+//! an entry such as [`RequestEntry`], and [`file_ended`]: their clauses say what they compute, and laws of
+//! specs/ and proofs/ that it is the grammar. It stands on `ssi_lexer` for tokens and for what readers have
+//! in common.
 #![tactic(auto)]
 
 mod bodies;
 mod conditions;
+mod ending;
 mod files;
-mod first;
+mod identities;
+mod identity_entries;
+#[cfg(test)]
+mod identity_tests;
+mod identity_tree;
+mod modules;
+mod names;
 mod read_fault;
 mod spots;
 #[cfg(test)]
 mod tests;
 mod tree;
 
-pub use first::{one_tree, read_first};
+pub use ending::file_ended;
+pub use files::{RequestEntry, file, header, headers};
+pub use identities::{identity_files, one_identity_tree, read_identities};
+pub use identity_tree::{IdentityTree, ModuleEntry, PointsEntry, RouteEntry, SubEntry};
 pub use read_fault::ReadFault;
-pub use tree::{BodyTree, CommandTree, CondTree, FirstTree, ItemTree, PartTree, Spot};
+pub use tree::{BodyTree, CommandTree, CondTree, ItemTree, PartTree, Spot};

@@ -1,13 +1,19 @@
 //! Why no tree was read.
 
+use ssi_base::Place;
+use ssi_lexer::LexFault;
 use thiserror::Error;
 
-/// Why no tree was read: `Later` where the tokens begin with nothing that is read so far, `Memory` where
-/// memory ran out.
+/// Why no tree was read.
 #[derive(Debug, Drop, Error)]
 pub enum ReadFault {
-    #[error("the text has a form that is not read yet")]
-    Later,
+    /// The text goes on with no token where one is needed.
+    #[error("no token")]
+    Lex(LexFault),
+    /// The first place where no spelling begins with the tokens so far.
+    #[error("no spelling")]
+    Syntax(Place),
+    /// Memory ran out.
     #[error("out of memory")]
     Memory,
 }

@@ -4,7 +4,6 @@
 use sqlite_items::Items;
 use ssi_base::Place;
 use ssi_lexer::Token;
-use std::marker::Model;
 
 /// A name, word or number of the text.
 #[derive(Clone, Copy, Debug, PartialEq, Eq)]
@@ -82,24 +81,4 @@ pub enum PartTree {
 #[derive(Drop)]
 pub struct BodyTree {
     pub parts: Items<PartTree>,
-}
-
-/// Twelve files with entries under FLG and PRR alone: the flags, and each request with its body.
-#[derive(Drop)]
-pub struct FirstTree {
-    pub flags: Vec<Spot>,
-    pub requests: Vec<(Spot, BodyTree)>,
-}
-
-impl Model for FirstTree {
-    ghost use Rattle.std.specs.Coded.{codes};
-    ghost use Rattle.ssi_terms.specs.Trees.{FirstFiles};
-    ghost use Rattle.ssi_terms.specs.contracts.tree.ItemTree as item_tree;
-    ghost use Rattle.ssi_terms.specs.contracts.tree.PartTree as part_tree;
-
-    ghost Value = { FirstFiles };
-
-    ghost coded = { Prim.hlevel (codes, item_tree.the_row.coded, part_tree.the_row.coded) };
-
-    ghost view = { λ tree. record { flags = tree.flags.items; requests = tree.requests.items } };
 }

@@ -5,9 +5,9 @@ use Rattle.ssi_lexer.proofs.scan.cut_front.Goals as goal
 pub returns : goal.returns
 returns c = record {
   tokens =
-      c.ended.ensures.tokens
-      ∙ ended_front c.loop-bytes.cursor c.loop-bytes.bytes.now c.in_default.len_below
-      ∙ c.loop-bytes.invariant.same;
-  within = c.ended.ensures.within;
-  characters = c.ended.ensures.characters;
+      c.end.ensures.tokens
+      ∙ ended_front c.loop-front.front.cursor c.loop-front.front.rest.now c.in_default.len_below
+      ∙ c.loop-front.invariant.same;
+  within = c.end.ensures.within;
+  characters = c.end.ensures.characters;
 }

@@ -2,8 +2,8 @@ use Rattle.std.proofs.Common.{◌≡◌, length}
 use Rattle.ssi_lexer.specs.Scan.{IsWithin, stream}
 use Rattle.ssi_lexer.proofs.scan.cut_front.Given as goal
 
-abbrev pub invariant-loop-bytes : goal.invariant-loop-bytes
-invariant-loop-bytes l = record { same : stream l.cursor l.bytes ≡ stream l.fn.cursor l.fn.bytes; within : IsWithin l.cursor (length l.bytes) }
+abbrev pub invariant-loop-front : goal.invariant-loop-front
+invariant-loop-front l = record { same : stream l.front.cursor l.front.rest.now ≡ stream l.fn.front.cursor l.fn.front.rest.now; within : IsWithin l.front.cursor (length l.front.rest.now) }
 
-abbrev pub decreases-loop-bytes : goal.decreases-loop-bytes
-decreases-loop-bytes l = length l.bytes
+abbrev pub decreases-loop-front : goal.decreases-loop-front
+decreases-loop-front l = length l.front.rest.now

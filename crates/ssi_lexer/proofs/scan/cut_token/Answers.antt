@@ -8,11 +8,11 @@ use Rattle.ssi_lexer.proofs.scan.cut_token.Goals as goal
 pub returns-in_default : goal.returns-in_default
 returns-in_default c = record {
   tokens =
-      c.faulty.ensures.tokens
-      ∙ bad_front c.args.cursor c.args.first c.args.more.now (kind_at_no_gap c.args.first _ c.requires.no_gap (sym c.in_default.is ∙ c.kind_at.ensures))
-      ∙ ap (stream c.args.cursor) (sym c.requires.parts);
-  within = c.faulty.ensures.within;
-  characters = c.faulty.ensures.characters;
+      c.fault.ensures.tokens
+      ∙ bad_front c.args.front.now.cursor c.args.first c.args.more.now (kind_at_no_gap c.args.first _ c.requires.no_gap (sym c.in_default.is ∙ c.kind_at.ensures))
+      ∙ ap (stream c.args.front.now.cursor) (sym c.requires.parts);
+  within = c.fault.ensures.within;
+  characters = c.fault.ensures.characters;
 }
 
 pub returns-in-None : goal.returns-in-None
@@ -25,12 +25,12 @@ returns-in-None c =
     let piece = no_code (is_piece (A kind) c.split_at.result.0.now) (code_of (A kind)) (sym c.in-None.is ∙ c.code_of.ensures) in
     record {
       tokens =
-          ap (λ (cs : List ℕ). goes_on c.one.result.ahead cs (stream c.one.result.cursor c.one.result.rest.now)) c.one.ensures.characters
-          ∙ token_front kind c.args.cursor c.args.first more c.split_at.result.0.now c.one.result.rest.now c.one.result.ahead c.one.result.cursor
+          ap (λ (cs : List ℕ). goes_on c.one.new.front.ahead cs (stream c.one.new.front.cursor c.one.new.front.rest.now)) c.one.ensures.characters
+          ∙ token_front kind c.args.front.now.cursor c.args.first more c.split_at.result.0.now c.one.new.front.rest.now c.one.new.front.ahead c.one.new.front.cursor
           is_kind (no_feed_no_gap c.args.first c.requires.no_gap.no_separator) chars (c.one.ensures.rest ∙ rest) piece c.one.ensures.ahead c.one.ensures.cursor
-          ∙ ap (stream c.args.cursor) (sym c.requires.parts);
+          ∙ ap (stream c.args.front.now.cursor) (sym c.requires.parts);
       within = c.one.ensures.within;
-      characters = its_characters kind c.args.cursor c.split_at.result.0.now c.one.result.characters.now c.one.result.ahead c.one.ensures.characters c.one.ensures.ahead;
+      characters = its_characters kind c.args.front.now.cursor c.split_at.result.0.now c.one.new.front.characters.now c.one.new.front.ahead c.one.ensures.characters c.one.ensures.ahead;
     }
 
 pub returns-in-Some-code_of : goal.returns-in-Some-code_of
@@ -42,9 +42,9 @@ returns-in-Some-code_of c =
     let bad = a_code (is_piece (A kind) c.split_at.result.0.now) (code_of (A kind)) c.in-Some-code_of.code (sym c.in-Some-code_of.is ∙ c.code_of.ensures) in
     record {
       tokens =
-          c.faulty-in-Some-code_of.ensures.tokens
-          ∙ fault_front kind c.args.cursor c.args.first more c.split_at.result.0.now c.in-Some-code_of.code is_kind chars bad
-          ∙ ap (stream c.args.cursor) (sym c.requires.parts);
-      within = c.faulty-in-Some-code_of.ensures.within;
-      characters = c.faulty-in-Some-code_of.ensures.characters;
+          c.fault-in-Some-code_of.ensures.tokens
+          ∙ fault_front kind c.args.front.now.cursor c.args.first more c.split_at.result.0.now c.in-Some-code_of.code is_kind chars bad
+          ∙ ap (stream c.args.front.now.cursor) (sym c.requires.parts);
+      within = c.fault-in-Some-code_of.ensures.within;
+      characters = c.fault-in-Some-code_of.ensures.characters;
     }

@@ -1,23 +1,38 @@
-use Rattle.std.proofs.Common.{rules, ◌<◌, length, arith}
+use Rattle.std.proofs.Common.{rules, arith, ◌≡◌, ◌<◌, length, get_or, false, sym, ap, ◌∙◌}
 use Rattle.ssi_base.proofs.Writing.{Written-past}
+use Rattle.ssi_identities.specs.DataSets.{counts_of}
+use Rattle.ssi_run.specs.Traces.{fact_at}
 use Rattle.ssi_run.proofs.Rest.{less_left, none_left, stopped}
-use Rattle.ssi_run.proofs.Shown.{all_shown, change_at, shown_next}
+use Rattle.ssi_run.proofs.Shown.{all_shown, alike, change_at, differing, same_text, shown_already, shown_at, shown_next}
 use Rattle.ssi_run.proofs.changes.write_changes.Goals as goal
+use Rattle.ssi_run.proofs.changes.write_changes.Goals.{then-shown-fact+in_ok-write_numbered, else-shown-fact}
 
-pub returns-in_err-write_if_changed-clause-writes : goal.returns-in_err-write_if_changed-clause-writes
-returns-in_err-write_if_changed-clause-writes g c =
+pub returns-in_err-write_numbered-clause-writes : goal.returns-in_err-write_numbered-clause-writes
+returns-in_err-write_numbered-clause-writes g c =
     let step = change_at c.args.plan.now c.args.shown.now c.args.state.now _ _ (omega arith) (omega arith) (omega arith) c.loop-fact.invariant.noted in
-    stopped _ (rw step at c.loop-fact.invariant.left) (search rules) c.from_residual.ensures.0 c.write_if_changed.ensures.writes
+    let text = differing c.args.plan.now (fact_at (counts_of c.args.plan.now) c.loop-fact.fact) _ _ c.if-shown-fact.true in
+    stopped _ (rw (step, text) at c.loop-fact.invariant.left) (search rules) c.from_residual.ensures.0 c.write_numbered.ensures
 
 pub loop-fact-preserved : goal.loop-fact-preserved
 loop-fact-preserved g c =
-    let step = change_at c.args.plan.now c.args.shown.now c.args.state.now _ _ (omega arith) (omega arith) (omega arith) c.loop-fact.invariant.noted in
     let in_old : c.loop-fact.fact < length c.args.shown.now = omega arith in
     let in_new : c.loop-fact.fact < length c.args.state.now = omega arith in
-    record {
-      left = less_left (rw step at c.loop-fact.invariant.left) (Written-past c.in_ok-write_if_changed.is c.branch-write_if_changed.ensures c.write_if_changed.ensures.writes);
-      noted = rw (c.in_ok-write_if_changed.ensures.noted, c.loop-fact.invariant.noted) (shown_next c.args.shown.now c.args.state.now c.loop-fact.fact in_new in_old);
-    }
+    let step = change_at c.args.plan.now c.args.shown.now c.args.state.now _ _ (omega arith) in_old in_new c.loop-fact.invariant.noted in
+    elim c.if-shown-fact.branch [
+      | then-shown-fact+in_ok-write_numbered w ↦
+          let text = differing c.args.plan.now (fact_at (counts_of c.args.plan.now) c.loop-fact.fact) _ _ w.if-shown-fact.true in
+          record {
+            left = rw w.sink-is (less_left (rw (step, text) at c.loop-fact.invariant.left) (Written-past w.in_ok-write_numbered.is w.branch-write_numbered.ensures w.write_numbered.ensures));
+            noted = rw (w.shown-is, c.loop-fact.invariant.noted) (shown_next c.args.shown.now c.args.state.now c.loop-fact.fact in_new in_old);
+          }
+      | else-shown-fact w ↦
+          let same : get_or c.loop-fact.shown c.loop-fact.fact false ≡ get_or c.args.state.now c.loop-fact.fact false = alike _ _ w.if-shown-fact.false in
+          let was : get_or c.loop-fact.shown c.loop-fact.fact false ≡ get_or c.args.shown.now c.loop-fact.fact false = ap (λ s. get_or s c.loop-fact.fact false) c.loop-fact.invariant.noted ∙ shown_at c.args.shown.now c.args.state.now c.loop-fact.fact in_new in_old in
+          record {
+            left = rw w.sink-is (rw (step, same_text c.args.plan.now (fact_at (counts_of c.args.plan.now) c.loop-fact.fact) _ _ same) at c.loop-fact.invariant.left);
+            noted = w.shown-is ∙ c.loop-fact.invariant.noted ∙ shown_already c.args.shown.now c.args.state.now c.loop-fact.fact in_new in_old (sym was ∙ same);
+          }
+    ]
 
 pub returns-clause-writes : goal.returns-clause-writes
 returns-clause-writes g c =

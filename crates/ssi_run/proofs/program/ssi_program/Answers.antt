@@ -1,27 +1,60 @@
-use Rattle.std.proofs.Common.{◌≡◌, sym, ◌∙◌, ap, Some, None, Err}
+use Rattle.std.proofs.Common.{◌≡◌, ap, refl, sym, subst, ◌∙◌, ◌⊎◌, Ok, Some, None}
+use Rattle.ssi_base.specs.Faults.{GoesOn}
+use Rattle.ssi_run.specs.declared.status.Status.TheVariants.{NoMemory, SourceFault}
 use Rattle.ssi_run.specs.declared.words.Command.TheVariants.{Run}
+use Rattle.ssi_run.specs.Outcomes.{number_after}
 use Rattle.ssi_run.specs.Words.{command_of, texts}
-use Rattle.ssi_run.proofs.Answering.{whole_usage, part_usage, whole_large, part_large, run_is}
+use Rattle.ssi_run.proofs.Answering.{Ran}
+use Rattle.ssi_run.proofs.Promises.{Promise, nothing_read, number_told, of_run, of_usage, run_is, same_count, usage_told}
 use Rattle.ssi_run.proofs.program.ssi_program.Goals as goal
 
-pub returns-in-None-clause-answer : goal.returns-in-None-clause-answer
-returns-in-None-clause-answer g c = λ a.
-    let none : command_of (texts c.args.words.now) ≡ None = sym c.read_words.ensures ∙ c.in-None.is in
-    let whole = c.finish.ensures.whole a.written in
-    whole_usage _ _ _ _ none whole.1 _ whole.0
+pub returns-in-None : goal.returns-in-None
+returns-in-None g c =
+    let words = texts c.args.words.now in
+    let none : command_of words ≡ None = sym c.read_words.ensures ∙ c.in-None.is in
+    let number = c.number.ensures ∙ ap number_after c.told.ensures in
+    let left = g.S.Source.left c.args.source.now in
+    let usage = of_usage words left left (g.S.Source.faults c.args.source.now) (g.S.Source.faults c.args.source.now) _ _ _ _ none (nothing_read left) c.write_all.result c.write_all.ensures.written in
+    let promise = subst (Promise words left left _ _ _ _ _ _) (sym number) usage in
+    record {
+      answer = promise.answer;
+      no_shape = promise.no_shape;
+      shapeless = promise.shapeless;
+      unread = λ e. refl;
+      to_end = promise.to_end;
+      past_limit = promise.past_limit;
+      within = promise.within;
+      source_fault = promise.source_fault;
+      sink_fault = promise.sink_fault;
+      source_goes_on = same_count (g.S.Source.faults c.args.source.now);
+      sink_goes_on = promise.sink_goes_on;
+      part = promise.part;
+      nothing = λ h. absurd (usage_told c.write_all.result c.number.result number h);
+      complete = promise.complete;
+    }
 
-pub returns-in-None-clause-part : goal.returns-in-None-clause-part
-returns-in-None-clause-part g c = λ e.
-    let none : command_of (texts c.args.words.now) ≡ None = sym c.read_words.ensures ∙ c.in-None.is in
-    part_usage _ _ _ _ none (c.finish.ensures.part e)
-
-pub returns-in-Err-TooLarge-clause-answer : goal.returns-in-Err-TooLarge-clause-answer
-returns-in-Err-TooLarge-clause-answer g c = λ a.
-    let run : command_of (texts c.args.words.now) ≡ Some Run = sym c.read_words.ensures ∙ c.in-Some-Run.is ∙ ap Some (run_is _) in
-    let whole = c.finish-in-Err-TooLarge.ensures.whole a.written in
-    whole_large _ _ _ _ run (g.S.Source.left c.read_all.new.source) (c.read_all.ensures.too_large (c.in-Err-TooLarge.is ∙ ap Err c.in-Err-TooLarge.field-0-is)) whole.1 _ whole.0
-
-pub returns-in-Err-TooLarge-clause-part : goal.returns-in-Err-TooLarge-clause-part
-returns-in-Err-TooLarge-clause-part g c = λ e.
-    let run : command_of (texts c.args.words.now) ≡ Some Run = sym c.read_words.ensures ∙ c.in-Some-Run.is ∙ ap Some (run_is _) in
-    part_large _ _ _ _ run (g.S.Source.left c.read_all.new.source) (c.read_all.ensures.too_large (c.in-Err-TooLarge.is ∙ ap Err c.in-Err-TooLarge.field-0-is)) (c.finish-in-Err-TooLarge.ensures.part e)
+pub returns-in-Some-Run : goal.returns-in-Some-Run
+returns-in-Some-Run g c =
+    let words = texts c.args.words.now in
+    let run : command_of words ≡ Some Run = sym c.read_words.ensures ∙ c.in-Some-Run.is ∙ ap Some (run_is _) in
+    let did = c.run.ensures in
+    let ran : Ran _ _ _ _ _ _ c.run.result = record { answered = did.answered; to_end = did.to_end; past_limit = did.past_limit; within = did.within } in
+    let still : (c.run.result ≡ Ok NoMemory) ⊎ (c.run.result ≡ Ok SourceFault) → GoesOn (g.K.Sink.faults c.args.sink.now) (g.K.Sink.faults c.run.new.sink) = λ h. subst (λ sink. GoesOn (g.K.Sink.faults c.args.sink.now) (g.K.Sink.faults sink)) (sym (did.nothing h)) (same_count (g.K.Sink.faults c.args.sink.now)) in
+    let promise = subst (Promise words _ _ _ _ _ _ _ _) (sym c.number-in-Some-Run.ensures)
+    (of_run words _ _ (g.S.Source.faults c.args.source.now) (g.S.Source.faults c.run.new.source) _ _ _ _ run c.run.result ran did.source_fault still) in
+    record {
+      answer = promise.answer;
+      no_shape = promise.no_shape;
+      shapeless = promise.shapeless;
+      unread = λ none. absurd cc;
+      to_end = promise.to_end;
+      past_limit = promise.past_limit;
+      within = promise.within;
+      source_fault = promise.source_fault;
+      sink_fault = promise.sink_fault;
+      source_goes_on = did.goes_on;
+      sink_goes_on = promise.sink_goes_on;
+      part = promise.part;
+      nothing = λ h. did.nothing (number_told c.run.result c.number-in-Some-Run.result c.number-in-Some-Run.ensures h);
+      complete = promise.complete;
+    }

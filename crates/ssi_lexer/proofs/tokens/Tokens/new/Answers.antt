@@ -8,19 +8,19 @@ pub invariant_of-result : goal.invariant_of-result
 invariant_of-result c =
     let text = c.args.text.now in
     record {
-      within = c.cut_front.ensures.within;
-      characters = c.cut_front.ensures.characters;
-      formed = front_formed (first_cursor c.args.start) (drop c.args.start text) (tokens_of c.cut_front.result) (c.cut_front.ensures.tokens ∙ from_byte c.args.start text);
-      stand = stream_stands text c.args.start (tokens_of c.cut_front.result) c.requires.within (c.cut_front.ensures.tokens ∙ from_byte c.args.start text);
+      within = c.front_of.ensures.within;
+      characters = c.front_of.ensures.characters;
+      formed = front_formed (first_cursor c.args.start) (drop c.args.start text) (tokens_of c.front_of.result) (c.front_of.ensures.tokens ∙ from_byte c.args.start text);
+      stand = stream_stands text c.args.start (tokens_of c.front_of.result) c.requires.within (c.front_of.ensures.tokens ∙ from_byte c.args.start text);
     }
 
 pub returns-clause-tokens : goal.returns-clause-tokens
 returns-clause-tokens c =
     let text = c.args.text.now in
-    tokens_are text c.args.start (tokens_of c.cut_front.result) (c.cut_front.ensures.tokens ∙ from_byte c.args.start text)
+    tokens_are text c.args.start (tokens_of c.front_of.result) (c.front_of.ensures.tokens ∙ from_byte c.args.start text)
 
 pub returns-clause-only : goal.returns-clause-only
 returns-clause-only c = λ lexemes end are.
     let text = c.args.text.now in
-    let found = tokens_are text c.args.start (tokens_of c.cut_front.result) (c.cut_front.ensures.tokens ∙ from_byte c.args.start text) in
-    same_tokens text c.args.start lexemes (tokens_of c.cut_front.result).0 end (tokens_of c.cut_front.result).1 are found
+    let found = tokens_are text c.args.start (tokens_of c.front_of.result) (c.front_of.ensures.tokens ∙ from_byte c.args.start text) in
+    same_tokens text c.args.start lexemes (tokens_of c.front_of.result).0 end (tokens_of c.front_of.result).1 are found

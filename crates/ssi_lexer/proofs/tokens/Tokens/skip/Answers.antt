@@ -7,10 +7,10 @@ pub invariant_of-self : goal.invariant_of-self
 invariant_of-self c =
     let front = c.self.inside.front in
     record {
-      within = c.cut_front-self-inside.ensures.within;
-      characters = c.cut_front-self-inside.ensures.characters;
-      formed = front_formed front.cursor front.rest.now (tokens_of c.cut_front-self-inside.result) c.cut_front-self-inside.ensures.tokens;
+      within = c.cut_front.ensures.within;
+      characters = c.cut_front.ensures.characters;
+      formed = front_formed front.cursor front.rest.now (tokens_of c.cut_front.new.front) c.cut_front.ensures.tokens;
       stand =
-          others_stand c.self.inside.text.now front.ahead front.characters.now (stream front.cursor front.rest.now) (tokens_of c.cut_front-self-inside.result)
-          c.in-Next.token c.in-Next.is c.cut_front-self-inside.ensures.tokens c.self.invariant.stand;
+          others_stand c.self.inside.text.now front.ahead front.characters.now (stream front.cursor front.rest.now) (tokens_of c.cut_front.new.front)
+          c.in-Next.token c.in-Next.is c.cut_front.ensures.tokens c.self.invariant.stand;
     }

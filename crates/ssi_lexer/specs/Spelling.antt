@@ -1,0 +1,87 @@
+-- What a reader of a language answers: that its tokens are a spelling, where no spelling goes on with them, or where
+-- the text goes on with no token. A language says which tokens spell which value.
+use Rattle.std.specs.Prelude.{◌≡◌, Bool, List, [], ◌∷◌, ◌++◌, Result, Ok, Err}
+use Rattle.ssi_base.specs.declared.place.Place.{Place}
+use Rattle.ssi_lexer.specs.declared.token.LexFault.{LexFault}
+use Rattle.ssi_lexer.specs.declared.token.TextEnd.{TextEnd}
+use Rattle.ssi_lexer.specs.declared.token.TextEnd.TheVariants.{Finished, Faulty}
+use Rattle.ssi_lexer.specs.Lexemes.{Lexeme}
+use Rattle.ssi_lexer.specs.TokenTests.{Is}
+
+-- some value and some further tokens: these tokens and those spell it
+pub record Begins (A : Type 0) (S : A → List Lexeme → Type 0) (front : List Lexeme) : Type 0 where
+  pub value : A
+  pub further : List Lexeme
+  pub spells : S value (front ++ further)
+
+-- some value and one further token or more: these tokens and those spell it
+pub record NeedsMore (A : Type 0) (S : A → List Lexeme → Type 0) (front : List Lexeme) : Type 0 where
+  pub value : A
+  pub next : Lexeme
+  pub further : List Lexeme
+  pub spells : S value (front ++ (next ∷ further))
+
+-- tokens that spell the value, and one more that ends it
+pub record WithEnd (A : Type 0) (S : A → List Lexeme → Type 0) (ends : Lexeme → Bool) (x : A) (tokens : List Lexeme) : Type 0 where
+  pub used : List Lexeme
+  pub last : Lexeme
+  pub parts : tokens ≡ used ++ (last ∷ [])
+  pub spells : S x used
+  pub ends_it : Is ends last
+
+-- a token that ends a value comes next, or the text ends
+abbrev pub IsEnded : (Lexeme → Bool) → List Lexeme → TextEnd → Type 0
+IsEnded ends [] (Finished place) = Unit {0}
+IsEnded ends [] (Faulty fault) = ⊥
+IsEnded ends (t ∷ ts) end = Is ends t
+
+-- exactly the tokens before the rest were taken: they spell the value, and the rest ends it
+pub record Takes (A : Type 0) (S : A → List Lexeme → Type 0) (ends : Lexeme → Bool) (left : List Lexeme) (end : TextEnd) (x : A) (rest : List Lexeme) : Type 0 where
+  pub used : List Lexeme
+  pub parts : left ≡ used ++ rest
+  pub spells : S x used
+  pub ended : IsEnded ends rest end
+
+-- Behind these tokens no spelling goes on: at the token that comes next, or at the end of the text where more is needed.
+abbrev pub FitsNothing : (A : Type 0) → (A → List Lexeme → Type 0) → (Lexeme → Bool) → List Lexeme → List Lexeme → TextEnd → Place → Type 0
+FitsNothing A S ends front [] (Finished past) place = (place ≡ past) × ((x : A) → ¬ S x front)
+FitsNothing A S ends front [] (Faulty fault) place = ⊥
+FitsNothing A S ends front (t ∷ ts) end place = (place ≡ t.place) × ¬ Begins A (WithEnd A S ends) (front ++ (t ∷ []))
+
+-- The first place where no spelling with its end begins with the tokens so far. With those before some begins, and it goes on.
+pub record FirstFault (A : Type 0) (S : A → List Lexeme → Type 0) (ends : Lexeme → Bool) (left : List Lexeme) (end : TextEnd) (place : Place) : Type 0 where
+  pub front : List Lexeme
+  pub rest : List Lexeme
+  pub parts : left ≡ front ++ rest
+  pub begins : NeedsMore A (WithEnd A S ends) front
+  pub fault : FitsNothing A S ends front rest end place
+
+-- All tokens that are left begin a spelling, and the text goes on with this fault.
+pub record StopsInside (A : Type 0) (S : A → List Lexeme → Type 0) (left : List Lexeme) (end : TextEnd) (fault : LexFault) : Type 0 where
+  pub begins : Begins A S left
+  pub faulty : end ≡ Faulty fault
+
+-- tokens that spell two values spell one
+abbrev pub HasOneValue : (A : Type 0) → (A → List Lexeme → Type 0) → Type 0
+HasOneValue A S = (a b : A) (tokens : List Lexeme) → S a tokens → S b tokens → a ≡ b
+
+-- what tokens and their end have in them: a value that is taken, a fault at a place, or a text that stops inside
+pub data Answer (A : Type 0) (S : A → List Lexeme → Type 0) (ends : Lexeme → Bool) (left : List Lexeme) (end : TextEnd) : Type 0 where
+  taken : (x : A) (rest : List Lexeme) → Takes A S ends left end x rest → Answer A S ends left end
+  fault_at : (place : Place) → FirstFault A S ends left end place → Answer A S ends left end
+  inside : (fault : LexFault) → StopsInside A S left end fault → Answer A S ends left end
+
+-- Any tokens and their end have exactly one of these in them.
+pub record HasOneAnswer (A : Type 0) (S : A → List Lexeme → Type 0) (ends : Lexeme → Bool) : Type 0 where
+  pub some : (left : List Lexeme) (end : TextEnd) → Answer A S ends left end
+  pub one_taken : (left : List Lexeme) (end : TextEnd) (a b : A) (rest more : List Lexeme) → Takes A S ends left end a rest → Takes A S ends left end b more → (a ≡ b) × (rest ≡ more)
+  pub one_fault : (left : List Lexeme) (end : TextEnd) (p q : Place) → FirstFault A S ends left end p → FirstFault A S ends left end q → p ≡ q
+  pub taken_has_no_fault : (left : List Lexeme) (end : TextEnd) (x : A) (rest : List Lexeme) (p : Place) → Takes A S ends left end x rest → ¬ FirstFault A S ends left end p
+  pub taken_not_inside : (left : List Lexeme) (end : TextEnd) (x : A) (rest : List Lexeme) (fault : LexFault) → Takes A S ends left end x rest → ¬ StopsInside A S left end fault
+  pub inside_has_no_fault : (left : List Lexeme) (end : TextEnd) (p : Place) (fault : LexFault) → StopsInside A S left end fault → ¬ FirstFault A S ends left end p
+
+-- where the tokens go on: the place of the next token or of the end of the text, or the fault
+abbrev pub place_of : List Lexeme → TextEnd → Result Place LexFault
+place_of [] (Finished place) = Ok place
+place_of [] (Faulty fault) = Err fault
+place_of (t ∷ ts) end = Ok t.place

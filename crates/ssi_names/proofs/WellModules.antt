@@ -1,0 +1,170 @@
+-- Modules without faults.
+use Rattle.std.proofs.Common.{◌≡◌, ℕ, ◌<◌, ◌≤◌, ◌||◌, Bool, true, false, not, List, [], ◌∷◌, ◌++◌, length, map, Option, Some, None, refl, ap, sym, subst, ◌∙◌, arith, replicate}
+use Rattle.std.specs.Prelude.{All, IfSome, fold, nat_le, ◌==◌, if◌then◌else◌, codes}
+use Rattle.std.specs.List.{AllByRecursion, IsDistinct, position_or_len}
+use Rattle.std.specs.Str.{bytes_eq}
+use Rattle.std.proofs.lemmas.Bool.Decides.{nat_tests}
+use Rattle.std.proofs.lemmas.Grind.{common_steps}
+use Rattle.std.proofs.lemmas.List.{map-append}
+use Rattle.std.proofs.lemmas.List.Elements.{All-nil, All-cons, All-replicate, All-set}
+use Rattle.std.proofs.lemmas.List.Folds.{list_any-append}
+use Rattle.ssi_identities.specs.declared.fact.Kind.{Kind}
+use Rattle.ssi_identities.specs.declared.fact.Kind.TheVariants.{Points, Signal, Track}
+use Rattle.ssi_terms.specs.declared.tree.Spot.{Spot}
+use Rattle.ssi_terms.specs.Trees.{ModuleText}
+use Rattle.ssi_names.specs.Codes.{unknown, twice, bad_pin, wired_twice}
+use Rattle.ssi_names.specs.Declarations.{names_at, is_declared_in, is_wired_in}
+use Rattle.ssi_names.specs.Faults as f
+use Rattle.ssi_names.specs.ModuleRows.{with_pin, pins_row, number_of_kind}
+use Rattle.ssi_names.specs.NameLists.{is_among}
+use Rattle.ssi_names.specs.Occurrences.{in_order}
+use Rattle.ssi_names.specs.SourceTexts.{SourceText}
+use Rattle.ssi_names.specs.Texts.{characters, number, is_number_among}
+use Rattle.ssi_names.specs.Well.{wired_kind, pin_count}
+use Rattle.ssi_names.proofs.Distinct.{both_false, place_below}
+use Rattle.ssi_names.proofs.Fine.{no_front, no_back, first_fine, no_faults}
+use Rattle.ssi_names.proofs.Sets.{or_false}
+use Rattle.ssi_names.proofs.Wires.{wires_keep}
+
+-- ---- addresses
+
+-- an address without a fault is 1 to 63, and new
+pub record IsNewAddress (text : List ℕ) (earlier : List ModuleText) (entry : ModuleText) : Type 0 where
+  pub some : 0 < number text entry.address
+  pub few : number text entry.address < 64
+  pub new : is_number_among (number text entry.address) (map (λ e. number text e.address) earlier) ≡ false
+
+zero_no : (n : ℕ) → (n == 0) ≡ false → 0 < n
+zero_no n e = grind (arith, nat_tests)
+
+few_no : (n : ℕ) → nat_le 64 n ≡ false → n < 64
+few_no n e = grind (arith, nat_tests)
+
+pub new_address : (text : List ℕ) (earlier : List ModuleText) (entry : ModuleText) → f.address_faults text earlier entry ≡ [] → IsNewAddress text earlier entry
+new_address text earlier entry none =
+    let n = number text entry.address in
+    let again = is_number_among n (map (λ (e : ModuleText). number text e.address) earlier) in
+    let first = first_fine entry.address (n == 0 || nat_le 64 n) bad_pin ((again, twice) ∷ []) none in
+    let range = both_false (n == 0) (nat_le 64 n) first.0 in
+    record { some = zero_no n range.0; few = few_no n range.1; new = (first_fine entry.address again twice [] first.1).0 }
+
+-- the address and the pins of an entry without faults
+pub address_fine : (text : List ℕ) (known : Kind → List ℕ → Bool) (earlier : List ModuleText) (entry : ModuleText) → f.module_faults text known earlier entry ≡ [] → f.address_faults text earlier entry ≡ []
+address_fine text known earlier entry none =
+    let word = characters text entry.kind in
+    no_front (f.address_faults text earlier entry) (in_order (f.pin_faults text (known (f.kind_at_pins word)) (f.count_of_pins word) (f.is_named_by text earlier)) [] entry.pins) none
+
+pub pins_fine : (text : List ℕ) (known : Kind → List ℕ → Bool) (earlier : List ModuleText) (entry : ModuleText) → f.module_faults text known earlier entry ≡ []
+    → in_order (f.pin_faults text (known (f.kind_at_pins (characters text entry.kind))) (f.count_of_pins (characters text entry.kind)) (f.is_named_by text earlier)) [] entry.pins ≡ []
+pins_fine text known earlier entry none =
+    let word = characters text entry.kind in
+    no_back (f.address_faults text earlier entry) (in_order (f.pin_faults text (known (f.kind_at_pins word)) (f.count_of_pins word) (f.is_named_by text earlier)) [] entry.pins) none
+
+other_number : (a b : ℕ) → (a == b) ≡ false → (b == a) ≡ false
+other_number a b e = grind (arith, nat_tests)
+
+-- none of the numbers is among those before
+abbrev NoNumber : List ℕ → List ℕ → Type 0
+NoNumber before numbers = AllByRecursion (λ n. is_number_among n before ≡ false) numbers
+
+-- the last of those before differs from each of the numbers
+with_last_number : (before numbers : List ℕ) (last : ℕ) → NoNumber (before ++ last ∷ []) numbers → NoNumber before numbers × AllByRecursion (λ n. (last == n) ≡ false) numbers
+with_last_number before [] last none = (tt, tt)
+with_last_number before (n ∷ numbers) last none =
+    let split : (is_number_among n before || (n == last)) ≡ false =
+    sym (list_any-append (λ m. n == m) before (last ∷ []) ∙ ap (λ b. is_number_among n before || b) (or_false (n == last))) ∙ none.0
+    in
+    let parts = both_false (is_number_among n before) (n == last) split in
+    let rest = with_last_number before numbers last none.1 in
+    ((parts.0, rest.0), (other_number n last parts.1, rest.1))
+
+-- the addresses of entries without faults differ
+addresses_by : (text : List ℕ) (known : Kind → List ℕ → Bool) (earlier modules : List ModuleText) → in_order (f.module_faults text known) earlier modules ≡ []
+    → NoNumber (map (λ e. number text e.address) earlier) (map (λ e. number text e.address) modules) × IsDistinct (λ a b. a == b) (map (λ e. number text e.address) modules)
+unfolding IsDistinct
+addresses_by text known earlier [] none = (tt, tt)
+addresses_by text known earlier (m ∷ modules) none =
+    let address = λ (e : ModuleText). number text e.address in
+    let here = new_address text earlier m (address_fine text known earlier m (no_front (f.module_faults text known earlier m) (in_order (f.module_faults text known) (earlier ++ m ∷ []) modules) none)) in
+    let rest = addresses_by text known (earlier ++ m ∷ []) modules (no_back (f.module_faults text known earlier m) (in_order (f.module_faults text known) (earlier ++ m ∷ []) modules) none) in
+    let parts = with_last_number (map address earlier) (map address modules) (address m) (subst (λ numbers. NoNumber numbers (map address modules)) (map-append address earlier (m ∷ [])) rest.0) in
+    ((here.new, parts.0), (parts.1, rest.1))
+
+pub addresses_differ : (text : List ℕ) (known : Kind → List ℕ → Bool) (modules : List ModuleText) → in_order (f.module_faults text known) [] modules ≡ []
+    → IsDistinct (λ a b. a == b) (map (λ e. number text e.address) modules)
+addresses_differ text known modules none = (addresses_by text known [] modules none).1
+
+-- ---- kinds and pins
+
+kind_by_word : (points signals : Bool) → (if points then 0 else if signals then 1 else 2) ≤ 2
+kind_by_word true signals = omega arith
+kind_by_word false true = omega arith
+kind_by_word false false = omega arith
+
+pub kind_small : (word : List ℕ) → number_of_kind word ≤ 2
+kind_small word = kind_by_word (bytes_eq word (codes "points")) (bytes_eq word (codes "signal"))
+
+count_by_word : (points signals : Bool) → (if points then 2 else 8) ≡ pin_count (if points then 0 else if signals then 1 else 2)
+count_by_word true signals = refl
+count_by_word false true = refl
+count_by_word false false = refl
+
+-- the count of pins goes by the kind's number
+pub count_is : (word : List ℕ) → f.count_of_pins word ≡ pin_count (number_of_kind word)
+count_is word = count_by_word (bytes_eq word (codes "points")) (bytes_eq word (codes "signal"))
+
+kind_at_by : (points signals : Bool) → (if points then Points else if signals then Signal else Track) ≡ wired_kind (if points then 0 else if signals then 1 else 2)
+kind_at_by true signals = refl
+kind_at_by false true = refl
+kind_at_by false false = refl
+
+-- and so does the kind of identity at the pins
+pub kind_is : (word : List ℕ) → f.kind_at_pins word ≡ wired_kind (number_of_kind word)
+kind_is word = kind_at_by (bytes_eq word (codes "points")) (bytes_eq word (codes "signal"))
+
+pub not_unknown : (b : Bool) → not b ≡ false → b ≡ true
+not_unknown true e = refl
+not_unknown false e = absurd cc
+
+-- a pin's name without a fault is declared
+pub pin_known : (text : List ℕ) (known : List ℕ → Bool) (count : ℕ) (named : List ℕ → Bool) (earlier : List (Spot × Spot)) (pin : Spot × Spot) → f.pin_faults text known count named earlier pin ≡ []
+    → known (characters text pin.0) ≡ true
+pin_known text known count named earlier pin none =
+    let name = characters text pin.0 in
+    let again = named name || is_among name (names_at text earlier) in
+    not_unknown (known name)
+    (first_fine pin.0 (not (known name)) unknown ((again, wired_twice) ∷ []) (no_front (f.pin_name_faults text known named earlier pin) (f.pin_number_faults text count earlier pin) none)).0
+
+-- pins that are wired to names that are declared are wired to numbers below the count
+pub wired_below : (text : List ℕ) (names : List (List ℕ)) (count : ℕ) (named : List ℕ → Bool) (earlier entries : List (Spot × Spot)) (pins : List (Option ℕ))
+    → in_order (f.pin_faults text (λ name. is_among name names) count named) earlier entries ≡ [] → All (λ pin. IfSome pin (λ n. n < length names)) pins
+    → All (λ pin. IfSome pin (λ n. n < length names)) (fold (with_pin text names) pins entries)
+wired_below text names count named earlier [] pins none all = all
+wired_below text names count named earlier (e ∷ es) pins none all =
+    let judge = f.pin_faults text (λ name. is_among name names) count named in
+    let found = pin_known text (λ name. is_among name names) count named earlier e (no_front (judge earlier e) (in_order judge (earlier ++ e ∷ []) es) none) in
+    wired_below text names count named (earlier ++ e ∷ []) es (with_pin text names pins e) (no_back (judge earlier e) (in_order judge (earlier ++ e ∷ []) es) none)
+    (All-set (λ pin. IfSome pin (λ n. n < length names)) pins (number text e.1) (Some (position_or_len (bytes_eq (characters text e.0)) names)) (place_below names (characters text e.0) found) all)
+
+-- so are those of a module
+pub row_wired : (text : List ℕ) (names : List (List ℕ)) (count : ℕ) (named : List ℕ → Bool) (entries : List (Spot × Spot)) → in_order (f.pin_faults text (λ name. is_among name names) count named) [] entries ≡ []
+    → All (λ pin. IfSome pin (λ n. n < length names)) (pins_row text names count entries)
+row_wired text names count named entries none =
+    wired_below text names count named [] entries (replicate count None) none (All-replicate (λ pin. IfSome pin (λ n. n < length names)) count None tt)
+
+pub row_long : (text : List ℕ) (names : List (List ℕ)) (count : ℕ) (entries : List (Spot × Spot)) → length (pins_row text names count entries) ≡ count
+row_long text names count entries =
+    let long : length (replicate {A = Option ℕ} count None) ≡ count = grind (arith, common_steps) in
+    wires_keep text names (replicate count None) entries ∙ long
+
+-- the addresses of a source without faults are below 64
+each_small : (text : List ℕ) (known : Kind → List ℕ → Bool) (earlier modules : List ModuleText) → in_order (f.module_faults text known) earlier modules ≡ [] → All (λ e. number text e.address < 64) modules
+each_small text known earlier [] none = All-nil (λ e. number text e.address < 64)
+each_small text known earlier (m ∷ modules) none =
+    All-cons (λ (e : ModuleText). number text e.address < 64) m modules
+    (new_address text earlier m (address_fine text known earlier m (no_front (f.module_faults text known earlier m) (in_order (f.module_faults text known) (earlier ++ m ∷ []) modules) none))).few
+    (each_small text known (earlier ++ m ∷ []) modules (no_back (f.module_faults text known earlier m) (in_order (f.module_faults text known) (earlier ++ m ∷ []) modules) none))
+
+pub addresses_small : (text : List ℕ) (tree : SourceText) → f.faults_of text tree ≡ [] → All (λ e. number text e.address < 64) tree.identities.modules
+addresses_small text tree none =
+    each_small text (is_declared_in text tree) [] tree.identities.modules (no_faults text (is_declared_in text tree) (is_wired_in text tree) tree none).modules

@@ -1,0 +1,80 @@
+-- The faults of conditions and bodies in PRR, in written order: a name before its word, a guard before its branches.
+use Rattle.std.specs.Prelude.{ℕ, Bool, ◌&&◌, true, false, not, List, [], ◌∷◌, ◌++◌, Option, Some, None}
+use Rattle.ssi_identities.specs.declared.fact.Kind.{Kind}
+use Rattle.ssi_terms.specs.declared.tree.Spot.{Spot}
+use Rattle.ssi_terms.specs.declared.tree.CommandTree.{CommandTree}
+use Rattle.ssi_terms.specs.declared.tree.ItemTree.{ItemTree, fold-ItemTree}
+use Rattle.ssi_terms.specs.declared.tree.ItemTree.TheOpen.{ItemTree-F, CondTree-F}
+use Rattle.ssi_terms.specs.declared.tree.CondTree.{CondTree, fold-CondTree}
+use Rattle.ssi_terms.specs.declared.tree.PartTree.{PartTree, fold-PartTree}
+use Rattle.ssi_terms.specs.declared.tree.PartTree.TheOpen.{PartTree-F, BodyTree-F}
+use Rattle.ssi_terms.specs.declared.tree.BodyTree.{BodyTree, fold-BodyTree}
+use Rattle.ssi_names.specs.declared.fault.Fault.{Fault}
+use Rattle.ssi_names.specs.Codes.{unknown, wrong_word, not_in_this_file, no_pfm}
+use Rattle.ssi_names.specs.Occurrences.{at, joined}
+use Rattle.ssi_names.specs.Texts.{characters}
+use Rattle.ssi_names.specs.Words.{kind_of, fact_of_word, lie_of_word, is_test, is_command, may_request}
+
+-- whether a test asks for a lie of points, and no rule says when they are free to go to it
+abbrev pub lacks_rule : (Bool → Bool) → Option Bool → Bool
+lacks_rule has_rule None = false
+lacks_rule has_rule (Some lie) = not (has_rule lie)
+
+-- no faults where there is no else-branch
+abbrev pub else_faults : Option (List Fault) → List Fault
+else_faults None = []
+else_faults (Some faults) = faults
+
+module _ (text : List ℕ) (is_declared : Kind → List ℕ → Bool) (has_rule : List ℕ → Bool → Bool) where
+  -- a name in a condition or a command: not declared, as one of the kind that its first letter tells
+  abbrev pub use_faults : Spot → List Fault
+  use_faults name = at name ((not (is_declared (kind_of (characters text name)) (characters text name)), unknown) ∷ [])
+
+  -- the word of a test: no test of the kind; whether declared points are free to go, and no rule says when
+  abbrev pub test_word_faults : List ℕ → Spot → List Fault
+  test_word_faults name word =
+      at word (
+      (not (is_test (kind_of name) (characters text word)), wrong_word)
+      ∷ (is_declared (kind_of name) name && lacks_rule (has_rule name) (lie_of_word (kind_of name) (characters text word)), no_pfm) ∷ [])
+
+  -- the word of a command: no command of the kind; not allowed in this file
+  abbrev pub command_word_faults : List ℕ → Spot → List Fault
+  command_word_faults name word =
+      at word (
+      (not (is_command (kind_of name) (characters text word)), wrong_word)
+      ∷ (not (may_request (fact_of_word (kind_of name) (characters text word))), not_in_this_file) ∷ [])
+
+  -- an item of a condition: a test, a bit of a report, which doesn't stand in this file, or a group
+  abbrev pub item_step : ItemTree-F (List Fault) (List Fault) → List Fault
+  item_step (ItemTree-F.Test name word) = use_faults name ++ test_word_faults (characters text name) word
+  item_step (ItemTree-F.Bit number word) = at number ((true, not_in_this_file) ∷ [])
+  item_step (ItemTree-F.Any conds) = joined conds
+
+  -- a condition: its items one after another
+  abbrev pub cond_step : CondTree-F (List Fault) (List Fault) → List Fault
+  cond_step cond = joined cond.items
+
+  abbrev pub item_faults : ItemTree → List Fault
+  item_faults = fold-ItemTree (List Fault) (List Fault) item_step cond_step
+
+  abbrev pub cond_faults : CondTree → List Fault
+  cond_faults = fold-CondTree (List Fault) (List Fault) item_step cond_step
+
+  -- a command
+  abbrev pub command_faults : CommandTree → List Fault
+  command_faults command = use_faults command.name ++ command_word_faults (characters text command.name) command.word
+
+  -- a part of a body: a command, or a choice
+  abbrev pub part_step : PartTree-F (List Fault) (List Fault) → List Fault
+  part_step (PartTree-F.Do command) = command_faults command
+  part_step (PartTree-F.If guard then_body else_body) = cond_faults guard ++ then_body ++ else_faults else_body
+
+  -- a body: its parts one after another
+  abbrev pub body_step : BodyTree-F (List Fault) (List Fault) → List Fault
+  body_step body = joined body.parts
+
+  abbrev pub part_faults : PartTree → List Fault
+  part_faults = fold-PartTree (List Fault) (List Fault) part_step body_step
+
+  abbrev pub body_faults : BodyTree → List Fault
+  body_faults = fold-BodyTree (List Fault) (List Fault) part_step body_step

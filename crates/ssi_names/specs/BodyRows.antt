@@ -1,0 +1,83 @@
+-- Conditions and bodies with numbers of facts. They tell something only where there are no faults.
+use Rattle.std.specs.Prelude.{ℕ, Bool, false, List, position, Option, Some, None}
+use Rattle.std.specs.List.{position_or_len}
+use Rattle.std.specs.Str.{bytes_eq}
+use Rattle.ssi_identities.specs.declared.fact.Counts.{Counts}
+use Rattle.ssi_identities.specs.declared.fact.FactKind.{FactKind}
+use Rattle.ssi_identities.specs.declared.fact.Kind.{Kind}
+use Rattle.ssi_identities.specs.declared.fact.Kind.TheVariants.{Points}
+use Rattle.ssi_identities.specs.declared.rule.CondItem.{CondItem}
+use Rattle.ssi_identities.specs.declared.rule.CondItem.TheVariants as item
+use Rattle.ssi_identities.specs.declared.rule.Cond.{Cond}
+use Rattle.ssi_identities.specs.declared.rule.Cmd.{Cmd}
+use Rattle.ssi_identities.specs.declared.rule.BodyItem.{BodyItem}
+use Rattle.ssi_identities.specs.declared.rule.BodyItem.TheVariants as part
+use Rattle.ssi_identities.specs.declared.rule.Body.{Body}
+use Rattle.ssi_identities.specs.Facts.{fact_number_of}
+use Rattle.ssi_terms.specs.declared.tree.Spot.{Spot}
+use Rattle.ssi_terms.specs.declared.tree.CommandTree.{CommandTree}
+use Rattle.ssi_terms.specs.declared.tree.ItemTree.{ItemTree, fold-ItemTree}
+use Rattle.ssi_terms.specs.declared.tree.ItemTree.TheOpen.{ItemTree-F, CondTree-F}
+use Rattle.ssi_terms.specs.declared.tree.CondTree.{CondTree, fold-CondTree}
+use Rattle.ssi_terms.specs.declared.tree.PartTree.{PartTree, fold-PartTree}
+use Rattle.ssi_terms.specs.declared.tree.PartTree.TheOpen.{PartTree-F, BodyTree-F}
+use Rattle.ssi_terms.specs.declared.tree.BodyTree.{BodyTree, fold-BodyTree}
+use Rattle.ssi_names.specs.Texts.{characters}
+use Rattle.ssi_names.specs.Words.{kind_of, fact_of_word, lie_of_word}
+
+module _ (text : List ℕ) (counts : Counts) (names : Kind → List (List ℕ)) where
+  -- the number of a fact by its identity's number; 0 where there is none
+  abbrev pub number_at : FactKind → Option ℕ → ℕ
+  number_at fact None = 0
+  number_at fact (Some index) = fact_number_of counts fact index
+
+  -- the number of the fact that is said of a name, and its value
+  abbrev pub fact_by : List (List ℕ) → List ℕ → Option (FactKind × Bool) → ℕ × Bool
+  fact_by names name None = (0, false)
+  fact_by names name (Some said) = (number_at said.0 (position (bytes_eq name) names), said.1)
+
+  -- the number of the fact that a word says of a name, and its value
+  abbrev pub fact_at : Spot → Spot → ℕ × Bool
+  fact_at name word =
+      fact_by (names (kind_of (characters text name))) (characters text name) (fact_of_word (kind_of (characters text name)) (characters text word))
+
+  -- a test: points are controlled to a lie or free to go to it, or a fact has a value
+  abbrev pub test_by : Spot → ℕ × Bool → Option Bool → CondItem
+  test_by name said (Some lie) = item.Free (position_or_len (bytes_eq (characters text name)) (names Points)) lie
+  test_by name said None = item.Lit said.0 said.1
+
+  abbrev pub test_row : Spot → Spot → CondItem
+  test_row name word = test_by name (fact_at name word) (lie_of_word (kind_of (characters text name)) (characters text word))
+
+  -- an item of a condition; a bit doesn't stand in this file
+  abbrev pub item_step : ItemTree-F CondItem Cond → CondItem
+  item_step (ItemTree-F.Test name word) = test_row name word
+  item_step (ItemTree-F.Bit number word) = item.Lit 0 false
+  item_step (ItemTree-F.Any conds) = item.Any conds
+
+  abbrev pub cond_step : CondTree-F CondItem Cond → Cond
+  cond_step cond = record { items = cond.items }
+
+  abbrev pub item_row : ItemTree → CondItem
+  item_row = fold-ItemTree CondItem Cond item_step cond_step
+
+  abbrev pub cond_row : CondTree → Cond
+  cond_row = fold-CondTree CondItem Cond item_step cond_step
+
+  -- a command
+  abbrev pub command_row : CommandTree → Cmd
+  command_row command = record { fact = (fact_at command.name command.word).0; value = (fact_at command.name command.word).1 }
+
+  -- a part of a body
+  abbrev pub part_step : PartTree-F BodyItem Body → BodyItem
+  part_step (PartTree-F.Do command) = part.Do (command_row command)
+  part_step (PartTree-F.If guard then_body else_body) = part.If (cond_row guard) then_body else_body
+
+  abbrev pub body_step : BodyTree-F BodyItem Body → Body
+  body_step body = record { items = body.parts }
+
+  abbrev pub part_row : PartTree → BodyItem
+  part_row = fold-PartTree BodyItem Body part_step body_step
+
+  abbrev pub body_row : BodyTree → Body
+  body_row = fold-BodyTree BodyItem Body part_step body_step

@@ -1,0 +1,35 @@
+-- Trackside modules with numbers of identities.
+use Rattle.std.specs.Prelude.{ℕ, if◌then◌else◌, codes, List, fold, replicate, slice_set, Option, Some, None}
+use Rattle.std.specs.List.{position_or_len}
+use Rattle.std.specs.Str.{bytes_eq}
+use Rattle.ssi_identities.specs.declared.fact.Kind.{Kind}
+use Rattle.ssi_identities.specs.DataSets.{ModulePlan}
+use Rattle.ssi_terms.specs.declared.tree.Spot.{Spot}
+use Rattle.ssi_terms.specs.Trees.{ModuleText}
+use Rattle.ssi_names.specs.Faults.{kind_at_pins, count_of_pins}
+use Rattle.ssi_names.specs.Texts.{characters, number}
+
+-- the number of a module's kind: 0 of points, 1 of signals, 2 of tracks
+abbrev pub number_of_kind : List ℕ → ℕ
+number_of_kind word = if bytes_eq word (codes "points") then 0 else if bytes_eq word (codes "signal") then 1 else 2
+
+module _ (text : List ℕ) where
+  -- the pins of a module, of which one more is wired to an identity
+  abbrev pub with_pin : List (List ℕ) → List (Option ℕ) → Spot × Spot → List (Option ℕ)
+  with_pin names pins pin = slice_set pins (number text pin.1) (Some (position_or_len (bytes_eq (characters text pin.0)) names))
+
+  -- so many pins, each with the number of the identity that it is wired to
+  abbrev pub pins_row : List (List ℕ) → ℕ → List (Spot × Spot) → List (Option ℕ)
+  pins_row names count pins = fold (with_pin names) (replicate count None) pins
+
+  -- a module: no entry of OPT says yet when its bits are 1, and none of IPT what its reports do
+  abbrev pub module_row : (Kind → List (List ℕ)) → ModuleText → ModulePlan
+  module_row names entry =
+      let word = characters text entry.kind in
+      record {
+        address = number text entry.address;
+        kind = number_of_kind word;
+        pins = pins_row (names (kind_at_pins word)) (count_of_pins word) entry.pins;
+        outputs = replicate 8 None;
+        input = None;
+      }

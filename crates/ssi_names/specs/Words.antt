@@ -1,0 +1,75 @@
+-- Kinds by letters, and facts by words.
+use Rattle.std.specs.Prelude.{ℕ, Bool, true, false, ◌||◌, if◌then◌else◌, codes, List, [], ◌∷◌, Option, Some, None, is_some}
+use Rattle.std.specs.Str.{bytes_eq}
+use Rattle.ssi_identities.specs.declared.fact.Kind.{Kind}
+use Rattle.ssi_identities.specs.declared.fact.Kind.TheVariants.{Points, Signal, Track, Route, Subroute, Flag, Request}
+use Rattle.ssi_identities.specs.declared.fact.FactKind.{FactKind}
+use Rattle.ssi_identities.specs.declared.fact.FactKind.TheVariants as fact
+use Rattle.ssi_identities.specs.Words.{word_of}
+use Rattle.ssi_lexer.specs.TokenTests.{begins_with}
+
+-- the letter with which the names of a kind begin
+abbrev pub letter_of : Kind → List ℕ
+letter_of Points = codes "P"
+letter_of Signal = codes "S"
+letter_of Track = codes "T"
+letter_of Route = codes "R"
+letter_of Subroute = codes "U"
+letter_of Flag = codes "L"
+letter_of Request = codes "Q"
+
+-- the first of these kinds whose letter a name begins with; the last one is given
+abbrev pub kind_among : List Kind → Kind → List ℕ → Kind
+kind_among [] last name = last
+kind_among (kind ∷ kinds) last name = if begins_with (letter_of kind) name then kind else kind_among kinds last name
+
+-- the kind of identity that a name is of, by its first letter
+abbrev pub kind_of : List ℕ → Kind
+kind_of name = kind_among (Points ∷ Signal ∷ Track ∷ Route ∷ Subroute ∷ Flag ∷ []) Request name
+
+-- the facts of an identity of a kind
+abbrev pub facts_of_kind : Kind → List FactKind
+facts_of_kind Points = fact.Reverse ∷ fact.DetectedNormal ∷ fact.DetectedReverse ∷ []
+facts_of_kind Signal = fact.Lamp ∷ []
+facts_of_kind Track = fact.Occupied ∷ []
+facts_of_kind Route = fact.RouteSet ∷ fact.RouteBarred ∷ []
+facts_of_kind Subroute = fact.Locked ∷ []
+facts_of_kind Flag = fact.FlagSet ∷ []
+facts_of_kind Request = []
+
+-- the first of these facts that a word says, and whether it says that the fact is true
+abbrev pub said_by : List FactKind → List ℕ → Option (FactKind × Bool)
+said_by [] word = None
+said_by (fact ∷ facts) word =
+    if bytes_eq word (word_of fact true) then Some (fact, true) else if bytes_eq word (word_of fact false) then Some (fact, false) else said_by facts word
+
+-- the fact of an identity of a kind that a word says, and whether it says that the fact is true
+abbrev pub fact_of_word : Kind → List ℕ → Option (FactKind × Bool)
+fact_of_word kind word = said_by (facts_of_kind kind) word
+
+-- the lie that a word asks for which asks whether points are controlled to it or free to go to it: true for reverse
+abbrev pub lie_of_word : Kind → List ℕ → Option Bool
+lie_of_word Points word = if bytes_eq word (codes "cnf") then Some false else if bytes_eq word (codes "crf") then Some true else None
+lie_of_word _ word = None
+
+-- whether a word is a test of identities of a kind
+abbrev pub is_test : Kind → List ℕ → Bool
+is_test kind word = is_some (fact_of_word kind word) || is_some (lie_of_word kind word)
+
+-- whether a word is a command to identities of a kind
+abbrev pub is_command : Kind → List ℕ → Bool
+is_command kind word = is_some (fact_of_word kind word)
+
+-- the facts that requests may command
+abbrev pub is_fact_of_requests : FactKind → Bool
+is_fact_of_requests fact.Reverse = true
+is_fact_of_requests fact.RouteSet = true
+is_fact_of_requests fact.RouteBarred = true
+is_fact_of_requests fact.Locked = true
+is_fact_of_requests fact.FlagSet = true
+is_fact_of_requests _ = false
+
+-- whether requests may command what a word says
+abbrev pub may_request : Option (FactKind × Bool) → Bool
+may_request None = false
+may_request (Some said) = is_fact_of_requests said.0

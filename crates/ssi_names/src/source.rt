@@ -1,0 +1,96 @@
+//! The whole source: the files of identities, the requests, and the files behind them.
+
+ghost use Rattle.std.specs.Prelude.{◌≡◌, List, IfOk, MatchResult};
+ghost use Rattle.ssi_base.specs.declared.place.Place.{Place};
+ghost use Rattle.ssi_lexer.specs.declared.token.LexFault.{LexFault};
+ghost use Rattle.ssi_lexer.specs.Lexemes.{Lexeme};
+ghost use Rattle.ssi_lexer.specs.Parsers.{Reads};
+ghost use Rattle.ssi_lexer.specs.Readings.{GoesOn};
+ghost use Rattle.ssi_lexer.specs.Spelling.{FirstFault, HasOneAnswer, HasOneValue, StopsInside, Takes};
+ghost use Rattle.ssi_names.specs.ReadSource as spec;
+ghost use Rattle.ssi_names.specs.SourceTexts.{SourceText};
+ghost use Rattle.ssi_names.specs.Sources.{SpellsSource};
+ghost use Rattle.ssi_terms.specs.Tests.{ends_file};
+
+use ssi_lexer::{Stop, Tokens};
+use ssi_terms::{
+    BodyTree, IdentityTree, ReadFault, RequestEntry, Spot, file, file_ended, headers,
+    identity_files,
+};
+use std::alloc::Global;
+use std::marker::Model;
+
+/// The files that have no entries yet.
+const FILES_WITHOUT_ENTRIES: [[u8; 3]; 4] = [*b"PFM", *b"FOP", *b"OPT", *b"IPT"];
+
+/// The whole source: the files of identities, and each request with its body.
+#[derive(Drop)]
+pub struct SourceTree {
+    /// The files PTS to TFM.
+    pub identities: IdentityTree,
+    /// PRR: each request's name with its body.
+    pub requests: Vec<(Spot, BodyTree)>,
+}
+
+impl Model for SourceTree {
+    ghost use Rattle.std.specs.Coded.{codes};
+    ghost use Rattle.ssi_names.specs.SourceTexts.{SourceText};
+    ghost use Rattle.ssi_terms.specs.contracts.tree.ItemTree as item_tree;
+    ghost use Rattle.ssi_terms.specs.contracts.tree.PartTree as part_tree;
+
+    ghost Value = { SourceText };
+
+    ghost coded = { Prim.hlevel (codes, item_tree.the_row.coded, part_tree.the_row.coded) };
+
+    ghost view = { λ tree. record { identities = tree.identities; requests = tree.requests.items } };
+}
+
+/// The files, whatever follows.
+#[tactic(auto, unfolding(crate::specs::ReadSource::source))]
+fn source_files(alloc: Global, tokens: &mut Tokens<'_>) -> Result<SourceTree, Stop>
+    ensures reads { Reads (spec.source tokens.old.left) result tokens.new.left }
+    ensures goes_on { GoesOn tokens.old tokens.new }
+{
+    let identities = identity_files(alloc, tokens)?;
+    let requests = file(alloc, tokens, b"PRR", &RequestEntry)?;
+    headers(tokens, &FILES_WITHOUT_ENTRIES)?;
+    Ok(SourceTree {
+        identities,
+        requests,
+    })
+}
+
+/// Reads the twelve files of a source, up to the next `file` or the end of the text.
+///
+/// Of a lexical and a syntax fault the one that stands first is answered. After an error the tokens stand
+/// where they stood, or further on.
+pub fn read_source(alloc: Global, tokens: &mut Tokens<'_>) -> Result<SourceTree, ReadFault>
+    // Exactly the tokens were taken that spell the tree, and `file` or the end of the text follows.
+    ensures found { IfOk result (λ tree. Takes SourceText SpellsSource ends_file tokens.old.left tokens.old.end tree tokens.new.left) }
+
+    // A source is read, unless memory runs out.
+    ensures only { (tree : SourceText) (rest : List Lexeme)
+        → Takes SourceText SpellsSource ends_file tokens.old.left tokens.old.end tree rest
+        → MatchResult result (λ found. (found ≡ tree) × (tokens.new.left ≡ rest)) (λ fault. fault ≡ ReadFault.Memory) }
+
+    // A syntax fault stands at the first place where no spelling begins with the tokens so far.
+    ensures syntax { (place : Place) → result ≡ Err (ReadFault.Syntax place)
+        → FirstFault SourceText SpellsSource ends_file tokens.old.left tokens.old.end place }
+
+    // Before a lexical fault the tokens begin a spelling, and more of them are needed.
+    ensures lexical { (fault : LexFault) → result ≡ Err (ReadFault.Lex fault)
+        → StopsInside SourceText SpellsSource tokens.old.left tokens.old.end fault }
+    ensures goes_on { GoesOn tokens.old tokens.new }
+{
+    let read = source_files(alloc, tokens);
+    file_ended(tokens, read)
+}
+
+/// What tokens and their end have in them is settled: one source is taken, or one fault stands there.
+pub fn one_source_tree()
+    // Tokens that spell two sources spell one.
+    ensures tree { HasOneValue SourceText SpellsSource }
+
+    // Exactly one of what `found`, `syntax` and `lexical` of `read_source` say is true.
+    ensures answer { HasOneAnswer SourceText SpellsSource ends_file }
+{}

@@ -1,0 +1,27 @@
+-- The lines of faults: where the fault stands, its code, and the name, word or number that has it.
+use Rattle.std.specs.Prelude.{ℕ, List, ◌++◌, codes, decimal}
+use Rattle.std.specs.List.{flat_map}
+use Rattle.ssi_base.specs.declared.place.Place.{Place}
+use Rattle.ssi_lexer.specs.declared.token.LexFault.{LexFault}
+use Rattle.ssi_names.specs.declared.fault.Fault.{Fault}
+use Rattle.ssi_names.specs.Texts.{characters}
+
+-- `fault`, the line and the column of a place
+abbrev pub fault_at : Place → List ℕ
+fault_at place = codes "fault " ++ decimal place.line ++ (codes ":" ++ decimal place.column)
+
+-- no token begins there
+abbrev pub lexical_line : LexFault → List ℕ
+lexical_line fault = fault_at fault.place ++ (codes " L" ++ decimal fault.code) ++ codes "\n"
+
+-- no spelling goes on there
+abbrev pub syntax_line : Place → List ℕ
+syntax_line place = fault_at place ++ codes " S1\n"
+
+-- a name, a word or a number has a fault
+abbrev pub name_fault_line : List ℕ → Fault → List ℕ
+name_fault_line text fault = fault_at fault.spot.place ++ (codes " N" ++ decimal fault.code) ++ (codes " " ++ characters text fault.spot ++ codes "\n")
+
+-- the faults of names, a line each
+abbrev pub name_fault_lines : List ℕ → List Fault → List ℕ
+name_fault_lines text faults = flat_map (name_fault_line text) faults

@@ -1,0 +1,80 @@
+//! The lines of faults.
+
+ghost use Rattle.std.specs.Prelude.{◌++◌, codes, decimal};
+ghost use Rattle.ssi_base.specs.Streams.{Writes};
+ghost use Rattle.ssi_names.specs.Texts.{characters};
+ghost use Rattle.ssi_run.specs.FaultLines.{fault_at, lexical_line, name_fault_line, name_fault_lines, syntax_line};
+
+use crate::pieces::{write_three, write_two};
+use ssi_base::{Failed, Place, Sink, decimal, write_all};
+use ssi_lexer::LexFault;
+use ssi_names::{Fault, characters as characters_of};
+
+/// Writes a text and a number behind it.
+fn write_number<K: Sink>(sink: &mut K, text: &[u8], number: u32) -> Result<(), Failed>
+    ensures { Writes (K.written sink.old) (K.written sink.new) (K.faults sink.old) (K.faults sink.new)
+        (text.now ++ decimal number) result }
+{
+    write_two(sink, text, decimal(u64::from(number)).as_slice())
+}
+
+/// Writes `fault` and where it stands.
+#[tactic(auto, using(ssi_base::proofs::Writing::joins))]
+fn write_fault_at<K: Sink>(sink: &mut K, place: Place) -> Result<(), Failed>
+    ensures { Writes (K.written sink.old) (K.written sink.new) (K.faults sink.old) (K.faults sink.new)
+        (fault_at place) result }
+{
+    write_number(sink, b"fault ", place.line)?;
+    write_number(sink, b":", place.column)
+}
+
+/// Writes the sort of a fault and its code.
+fn write_code<K: Sink>(sink: &mut K, sort: &[u8], code: u8) -> Result<(), Failed>
+    ensures { Writes (K.written sink.old) (K.written sink.new) (K.faults sink.old) (K.faults sink.new)
+        (sort.now ++ decimal code) result }
+{
+    write_two(sink, sort, decimal(u64::from(code)).as_slice())
+}
+
+/// Writes the line of a lexical fault.
+#[tactic(auto, using(ssi_base::proofs::Writing::joins))]
+pub fn write_lexical_fault<K: Sink>(sink: &mut K, fault: LexFault) -> Result<(), Failed>
+    ensures { Writes (K.written sink.old) (K.written sink.new) (K.faults sink.old) (K.faults sink.new)
+        (lexical_line fault) result }
+{
+    write_fault_at(sink, fault.place)?;
+    write_code(sink, b" L", fault.code)?;
+    write_all(sink, b"\n")
+}
+
+/// Writes the line of a syntax fault.
+#[tactic(auto, using(ssi_base::proofs::Writing::joins))]
+pub fn write_syntax_fault<K: Sink>(sink: &mut K, place: Place) -> Result<(), Failed>
+    ensures { Writes (K.written sink.old) (K.written sink.new) (K.faults sink.old) (K.faults sink.new)
+        (syntax_line place) result }
+{
+    write_fault_at(sink, place)?;
+    write_all(sink, b" S1\n")
+}
+
+/// Writes the line of a name's fault.
+#[tactic(auto, using(ssi_base::proofs::Writing::joins))]
+fn write_name_fault<K: Sink>(sink: &mut K, text: &[u8], fault: &Fault) -> Result<(), Failed>
+    ensures { Writes (K.written sink.old) (K.written sink.new) (K.faults sink.old) (K.faults sink.new)
+        (name_fault_line text.now fault.now) result }
+{
+    write_fault_at(sink, fault.spot.place)?;
+    write_code(sink, b" N", fault.code)?;
+    write_three(sink, b" ", characters_of(text, &fault.spot), b"\n")
+}
+
+/// Writes the lines of the faults of names, one after another.
+pub fn write_name_faults<K: Sink>(sink: &mut K, text: &[u8], faults: &[Fault]) -> Result<(), Failed>
+    ensures { Writes (K.written sink.old) (K.written sink.new) (K.faults sink.old) (K.faults sink.new)
+        (name_fault_lines text.now faults.now) result }
+{
+    for fault in faults {
+        write_name_fault(sink, text, fault)?;
+    }
+    Ok(())
+}

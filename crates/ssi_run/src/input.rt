@@ -1,0 +1,131 @@
+//! An input within the limit: its data part is read and resolved, and its script is run.
+
+ghost use Rattle.std.specs.Prelude.{◌≡◌, ◌≢◌, ◌≤◌, List, Ok, Err, length, IfOk};
+ghost use Rattle.ssi_identities.specs.DataSets.{counts_of};
+ghost use Rattle.ssi_identities.specs.Facts.{IsWithinLimits};
+ghost use Rattle.ssi_names.specs.Spelled.{IsSpelledIn};
+ghost use Rattle.ssi_names.specs.Well.{IsWell};
+ghost use Rattle.ssi_run.specs.declared.script.ScriptStep.{ScriptStep as Step};
+ghost use Rattle.ssi_run.specs.Statuses.{input_limit};
+ghost use Rattle.ssi_run.specs.Traces.{cycles_in, trace_of};
+ghost use Rattle.ssi_run.specs.Answers.{InputAnswers, IsRun, PlanAnswers, TreeAnswers, done};
+ghost use Rattle.ssi_run.specs.Outcomes.{Replies};
+
+use crate::fault_lines::{write_lexical_fault, write_name_faults, write_syntax_fault};
+use crate::interlocking::Interlocking;
+use crate::refusal::Refusal;
+use crate::requests::request_names;
+use crate::script::{ScriptStep, read_script};
+use crate::status::{Status, told};
+use crate::trace::write_steps;
+use ssi_base::{Failed, Sink, write_all};
+use ssi_identities::DataSet;
+use ssi_lexer::Tokens;
+use ssi_names::{ResolveFault, SourceTree, read_source, resolve};
+use ssi_terms::ReadFault;
+use std::alloc::Global;
+
+/// What is written where the input isn't of the form that is built so far.
+const FAULT_LATER: &[u8] = b"fault later\n";
+
+/// Does the steps of a script and writes their trace. All memory is taken before the first line.
+fn run_steps<K: Sink>(
+    alloc: Global,
+    plan: &DataSet,
+    steps: &[ScriptStep],
+    sink: &mut K,
+) -> Result<Status, Failed>
+    requires cycles { cycles_in steps.now ≤ 1000000 }
+    requires limits { IsWithinLimits (counts_of plan.now) }
+    ensures answered { result ≢ Ok Status.NoMemory → Replies (λ answer. answer ≡ done (trace_of plan.now steps.now))
+        (K.written sink.old) (K.written sink.new) (K.faults sink.old) (K.faults sink.new) result }
+    ensures nothing { result ≡ Ok Status.NoMemory → sink.new ≡ sink.old }
+{
+    let Ok(mut core) = Interlocking::new(alloc, plan) else {
+        return Ok(Status::NoMemory);
+    };
+    let Ok(mut shown) = Vec::from_slice(alloc, core.state()) else {
+        return Ok(Status::NoMemory);
+    };
+    let written = write_steps(sink, plan, &mut core, &mut shown, steps);
+    told(written, Status::Done)
+}
+
+/// The steps of the script behind the data part, where this is run today. `Later` says that it isn't.
+fn read_run(
+    alloc: Global,
+    input: &[u8],
+    plan: &DataSet,
+    tokens: &mut Tokens<'_>,
+) -> Result<Vec<ScriptStep>, Refusal>
+    requires { IsWell plan.now }
+    ensures found { IfOk result (λ steps. IsRun input.now plan.now steps.items tokens.old.left tokens.old.end) }
+    ensures later { result ≡ Err Refusal.Later → (steps : List Step)
+        → ¬ IsRun input.now plan.now steps tokens.old.left tokens.old.end }
+{
+    if !plan.modules.is_empty() || !plan.statements.is_empty() {
+        return Err(Refusal::Later);
+    }
+    let names = request_names(alloc, plan)?;
+    read_script(alloc, input, tokens, &names)
+}
+
+/// Answers a data set and what stands behind the data part.
+fn run_plan<K: Sink>(
+    alloc: Global,
+    input: &[u8],
+    plan: &DataSet,
+    tokens: &mut Tokens<'_>,
+    sink: &mut K,
+) -> Result<Status, Failed>
+    requires { IsWell plan.now }
+    ensures answered { result ≢ Ok Status.NoMemory → Replies (PlanAnswers input.now plan.now tokens.old.left tokens.old.end)
+        (K.written sink.old) (K.written sink.new) (K.faults sink.old) (K.faults sink.new) result }
+    ensures nothing { result ≡ Ok Status.NoMemory → sink.new ≡ sink.old }
+{
+    match read_run(alloc, input, plan, tokens) {
+        Ok(steps) => run_steps(alloc, plan, steps.as_slice(), sink),
+        Err(Refusal::Later) => told(write_all(sink, FAULT_LATER), Status::Faulty),
+        Err(Refusal::Memory) => Ok(Status::NoMemory),
+    }
+}
+
+/// Answers the tree of a data part and what stands behind it.
+fn run_tree<K: Sink>(
+    alloc: Global,
+    input: &[u8],
+    tree: &SourceTree,
+    tokens: &mut Tokens<'_>,
+    sink: &mut K,
+) -> Result<Status, Failed>
+    requires short { length input.now ≤ input_limit }
+    requires spelled { IsSpelledIn input.now tree.now }
+    ensures answered { result ≢ Ok Status.NoMemory → Replies (TreeAnswers input.now tree.now tokens.old.left tokens.old.end)
+        (K.written sink.old) (K.written sink.new) (K.faults sink.old) (K.faults sink.new) result }
+    ensures nothing { result ≡ Ok Status.NoMemory → sink.new ≡ sink.old }
+{
+    match resolve(alloc, input, tree) {
+        Ok(plan) => run_plan(alloc, input, &plan, tokens, sink),
+        Err(ResolveFault::Faults(faults)) => {
+            let written = write_name_faults(sink, input, faults.items.as_slice());
+            told(written, Status::Faulty)
+        }
+        Err(ResolveFault::Memory) => Ok(Status::NoMemory),
+    }
+}
+
+/// Answers an input within the limit: the faults of its data part, or what its data set is answered.
+pub fn run_input<K: Sink>(alloc: Global, input: &[u8], sink: &mut K) -> Result<Status, Failed>
+    requires { length input.now ≤ input_limit }
+    ensures answered { result ≢ Ok Status.NoMemory → Replies (InputAnswers input.now)
+        (K.written sink.old) (K.written sink.new) (K.faults sink.old) (K.faults sink.new) result }
+    ensures nothing { result ≡ Ok Status.NoMemory → sink.new ≡ sink.old }
+{
+    let mut tokens = Tokens::new(input, 0);
+    match read_source(alloc, &mut tokens) {
+        Ok(tree) => run_tree(alloc, input, &tree, &mut tokens, sink),
+        Err(ReadFault::Lex(fault)) => told(write_lexical_fault(sink, fault), Status::Faulty),
+        Err(ReadFault::Syntax(place)) => told(write_syntax_fault(sink, place), Status::Faulty),
+        Err(ReadFault::Memory) => Ok(Status::NoMemory),
+    }
+}

@@ -1,0 +1,10 @@
+use Rattle.ssi_lexer.proofs.OneAnswer.{one_answer}
+use Rattle.ssi_lexer.proofs.Spellings.{one_value}
+use Rattle.ssi_terms.proofs.IdentityFiles.{good_identities, file_follows}
+use Rattle.ssi_terms.proofs.identities.one_identity_tree.Goals as goal
+
+pub returns-clause-tree : goal.returns-clause-tree
+returns-clause-tree c = one_value _ _ _ _ _ good_identities _ file_follows
+
+pub returns-clause-answer : goal.returns-clause-answer
+returns-clause-answer c = one_answer _ _ _ _ _ good_identities _ file_follows

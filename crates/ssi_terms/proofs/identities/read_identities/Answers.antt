@@ -1,0 +1,17 @@
+use Rattle.ssi_terms.proofs.Endings.{told}
+use Rattle.ssi_terms.proofs.IdentityFiles.{good_identities, file_follows}
+use Rattle.ssi_terms.proofs.identities.read_identities.Goals as goal
+
+pub returns : goal.returns
+returns c =
+    let old = c.args.tokens.now in
+    let read = c.identity_files-read in
+    let new = read.new.tokens in
+    let clauses = told _ _ _ _ _ good_identities _ file_follows old.left old.end read.result new.left new.end c.file_ended.result read.ensures.reads read.ensures.goes_on.end c.file_ended.ensures in
+    record {
+      found = clauses.found;
+      only = clauses.only;
+      syntax = clauses.syntax;
+      lexical = clauses.lexical;
+      goes_on = read.ensures.goes_on;
+    }
