@@ -1,5 +1,6 @@
 -- Readers that go by the next token: options and choices.
-use Rattle.std.proofs.Common.{◌≡◌, Bool, true, false, cond, List, [], ◌∷◌, ◌++◌, Option, Some, None, Ok, refl, ap, ◌∙◌}
+use Rattle.std.proofs.Common.{◌≡◌, Bool, true, false, cond, List, [], ◌∷◌, ◌++◌, Option, Some, None, Ok, Err, refl, ap, ◌∙◌}
+use Rattle.ssi_lexer.specs.declared.wanted.Stop.{Stop}
 use Rattle.ssi_lexer.specs.Lexemes.{Lexeme}
 use Rattle.ssi_lexer.specs.TokenTests.{sees}
 use Rattle.ssi_lexer.specs.Languages.{Optional, absent, present}
@@ -92,3 +93,29 @@ module _ (A : Type 0) (test : Lexeme → Bool) (p q : Parser A) (S T : A → Lis
 
   pub good_either : Good A (either test p q) (OneOf A S T) E F
   good_either = record { explains = either_explains; complete = either_complete; sample = g.sample; text = g.text; sample_is = the_one g.sample g.text g.sample_is }
+
+-- a reader that stops where such a token comes, and else reads
+module _ (A : Type 0) (test : Lexeme → Bool) (stop : Stop) (p q : Parser A) (T : A → List Lexeme → Type 0) (E F : List Lexeme → Type 0)
+    (stops : (ts : List Lexeme) → p ts ≡ Err (stop, ts)) (lacks : (x : A) (u rest : List Lexeme) → T x u → F rest → Lacks test (u ++ rest)) (h : Good A q T E F) where
+  stop_goes : (ts other : List Lexeme) → sees test ts ≡ true → BeginAlike other ts → either test p q other ≡ Err (stop, other)
+  unfolding either
+  stop_goes ts other e k = let same : sees test other ≡ true = sees_alike test other ts k ∙ e in rw same (stops other)
+
+  stop_stays : (ts other : List Lexeme) → sees test ts ≡ false → BeginAlike other ts → either test p q other ≡ q other
+  unfolding either
+  stop_stays ts other e k = let same : sees test other ≡ false = sees_alike test other ts k ∙ e in rw same refl
+
+  stop_by : (ts : List Lexeme) (b : Bool) → sees test ts ≡ b → Explains A (either test p q) T E ts (cond b (Err (stop, ts)) (q ts))
+  stop_by ts true e = record { front = []; parts = refl; value = h.sample; others = h.text; begins = h.sample_is; again = λ other k. stop_goes ts other e k }
+  stop_by ts false e = explains_as A q (either test p q) T T E E ts (λ other k. stop_stays ts other e k) (λ x u t. t) (λ rest k. k) (q ts) (h.explains ts)
+
+  stop_explains : (ts : List Lexeme) → Explains A (either test p q) T E ts (either test p q ts)
+  unfolding either
+  stop_explains ts = rw (stops ts) (stop_by ts (sees test ts) refl)
+
+  stop_complete : (x : A) (used rest : List Lexeme) → T x used → F rest → either test p q (used ++ rest) ≡ Ok (x, rest)
+  unfolding either
+  stop_complete x used rest t k = rw (lacks x used rest t k) (h.complete x used rest t k)
+
+  pub good_either_stop : Good A (either test p q) T E F
+  good_either_stop = record { explains = stop_explains; complete = stop_complete; sample = h.sample; text = h.text; sample_is = h.sample_is }

@@ -11,8 +11,11 @@ pub mod Joining
 pub mod Choosing
 pub mod Repeating
 pub mod Listing
+pub mod Deepening
 pub mod Starting
 pub mod Numbers
 pub mod Spellings
 pub mod OneAnswer
+pub mod Depths
+pub mod Findings
 pub mod Sequences

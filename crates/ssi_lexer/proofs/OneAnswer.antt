@@ -1,4 +1,5 @@
--- Of tokens and their end a reader of a language can answer one thing at most.
+-- Of tokens and their end a reader of a language can answer one thing at most: where it is the same language within the
+-- depths and with depths left aside.
 use Rattle.std.proofs.Common.{◌≡◌, Bool, true, false, List, [], ◌∷◌, ◌++◌, Ok, Err, refl, sym, ap, subst, ◌∙◌, append_assoc}
 use Rattle.std.proofs.lemmas.List.{append-nil}
 use Rattle.ssi_base.specs.declared.place.Place.{Place}
@@ -9,25 +10,25 @@ use Rattle.ssi_lexer.specs.declared.wanted.Stop.{Stop}
 use Rattle.ssi_lexer.specs.Lexemes.{Lexeme}
 use Rattle.ssi_lexer.specs.Parsers.{Outcome, Parser}
 use Rattle.ssi_lexer.specs.Laws.{first_lexeme, BeginAlike, Took, Good}
-use Rattle.ssi_lexer.specs.Spelling.{Begins, NeedsMore, WithEnd, IsEnded, Takes, FitsNothing, FirstFault, StopsInside, Answer, taken, fault_at, inside, HasOneAnswer, place_of}
+use Rattle.ssi_lexer.specs.Spelling.{Begins, NeedsMore, WithEnd, IsEnded, Takes, FitsNothing, FirstFault, StopsInside, place_of}
 use Rattle.ssi_lexer.proofs.Joining.{took}
 use Rattle.ssi_lexer.proofs.Spellings.{Follows, takes_is, found, begins_with_end, end_read, stopped_first, unended_first, stopped_inside, read_inside, value_is, rest_is, first_is}
 
 -- ---- two ways to part a list
 
 -- the one front begins with the other
-data Compared (a b c d : List Lexeme) : Type 0 where
+pub data Compared (a b c d : List Lexeme) : Type 0 where
   longer : (e : List Lexeme) → b ≡ a ++ e → c ≡ e ++ d → Compared a b c d
   shorter : (t : Lexeme) (e : List Lexeme) → a ≡ b ++ (t ∷ e) → d ≡ t ∷ (e ++ c) → Compared a b c d
 
-tail_is : (s t : Lexeme) (more rest : List Lexeme) → s ∷ more ≡ t ∷ rest → more ≡ rest
+pub tail_is : (s t : Lexeme) (more rest : List Lexeme) → s ∷ more ≡ t ∷ rest → more ≡ rest
 tail_is s t more rest e = cc
 
 in_front : (x y : Lexeme) (a b c d : List Lexeme) → x ≡ y → Compared a b c d → Compared (x ∷ a) (y ∷ b) c d
 in_front x y a b c d same (longer e p q) = longer e (ap (λ (z : Lexeme). z ∷ b) (sym same) ∙ ap (λ (l : List Lexeme). x ∷ l) p) q
 in_front x y a b c d same (shorter t e p q) = shorter t e (ap (λ (z : Lexeme). z ∷ a) same ∙ ap (λ (l : List Lexeme). y ∷ l) p) q
 
-compared : (a b c d : List Lexeme) → a ++ c ≡ b ++ d → Compared a b c d
+pub compared : (a b c d : List Lexeme) → a ++ c ≡ b ++ d → Compared a b c d
 compared [] b c d e = longer b refl e
 compared (x ∷ a) [] c d e = shorter x a refl (sym e)
 compared (x ∷ a) (y ∷ b) c d e = in_front x y a b c d (first_is x y (a ++ c) (b ++ d) e) (compared a b c d (tail_is x y (a ++ c) (b ++ d) e))
@@ -40,14 +41,14 @@ not_empty (t ∷ e) further next h = cc
 
 module _ (A : Type 0) (S : A → List Lexeme → Type 0) where
   -- what begins with more begins with less
-  begins_less : (front : List Lexeme) (t : Lexeme) (e : List Lexeme) → Begins A S (front ++ (t ∷ e)) → Begins A S (front ++ (t ∷ []))
+  pub begins_less : (front : List Lexeme) (t : Lexeme) (e : List Lexeme) → Begins A S (front ++ (t ∷ e)) → Begins A S (front ++ (t ∷ []))
   begins_less front t e b = record {
     value = b.value;
     further = e ++ b.further;
     spells = subst (S b.value) (append_assoc front (t ∷ e) b.further ∙ sym (append_assoc front (t ∷ []) (e ++ b.further))) b.spells;
   }
 
-  begins_of : (front : List Lexeme) → NeedsMore A S front → Begins A S front
+  pub begins_of : (front : List Lexeme) → NeedsMore A S front → Begins A S front
   begins_of front n = record { value = n.value; further = n.next ∷ n.further; spells = n.spells }
 
 module _ (A : Type 0) (p : Parser A) (S : A → List Lexeme → Type 0) (E F : List Lexeme → Type 0) (good : Good A p S E F) (ends : Lexeme → Bool) (follows : Follows F ends) where
@@ -70,7 +71,7 @@ module _ (A : Type 0) (p : Parser A) (S : A → List Lexeme → Type 0) (E F : L
   same_place a b left end e h = let same = sym e ∙ h in cc
 
   -- what two faults of the same tokens have to do with each other
-  fault_by : (left : List Lexeme) (end : TextEnd) (a b : Place) (f : FirstFault A S ends left end a) (g : FirstFault A S ends left end b) → Compared f.front g.front f.rest g.rest → a ≡ b
+  fault_by : (left : List Lexeme) (end : TextEnd) (a b : Place) (f : FirstFault A S S ends left end a) (g : FirstFault A S S ends left end b) → Compared f.front g.front f.rest g.rest → a ≡ b
   fault_by left end a b f g (longer [] same rest) =
       same_place a b f.rest end (fault_place f.front f.rest end a f.fault) (ap (λ (ts : List Lexeme). place_of ts end) rest ∙ fault_place g.front g.rest end b g.fault)
   fault_by left end a b f g (longer (t ∷ e) same rest) =
@@ -78,7 +79,7 @@ module _ (A : Type 0) (p : Parser A) (S : A → List Lexeme → Type 0) (E F : L
   fault_by left end a b f g (shorter t e same rest) =
       absurd (none_past g.front g.rest (e ++ f.rest) end b t e g.fault rest (subst (Begins A Ended) same (begins_of A Ended f.front f.begins)))
 
-  one_fault : (left : List Lexeme) (end : TextEnd) (a b : Place) → FirstFault A S ends left end a → FirstFault A S ends left end b → a ≡ b
+  pub one_fault : (left : List Lexeme) (end : TextEnd) (a b : Place) → FirstFault A S S ends left end a → FirstFault A S S ends left end b → a ≡ b
   one_fault left end a b f g = fault_by left end a b f g (compared f.front g.front f.rest g.rest (sym f.parts ∙ g.parts))
 
   -- where a value ends no fault stands
@@ -101,7 +102,7 @@ module _ (A : Type 0) (p : Parser A) (S : A → List Lexeme → Type 0) (E F : L
 
   -- ---- a value that is taken, and a fault
 
-  no_fault_by : (left : List Lexeme) (end : TextEnd) (x : A) (rest : List Lexeme) (place : Place) → IsEnded ends rest end → (k : Read left x rest) (f : FirstFault A S ends left end place) → Compared f.front k.used f.rest rest → ⊥
+  no_fault_by : (left : List Lexeme) (end : TextEnd) (x : A) (rest : List Lexeme) (place : Place) → IsEnded ends rest end → (k : Read left x rest) (f : FirstFault A S S ends left end place) → Compared f.front k.used f.rest rest → ⊥
   no_fault_by left end x rest place ended k f (longer [] same is) =
       no_fault_at f.front rest end place x (subst (S x) (same ∙ append-nil f.front) k.spells) ended (subst (λ (ts : List Lexeme). FitsNothing A S ends f.front ts end place) is f.fault)
   no_fault_by left end x rest place ended k f (longer (t ∷ e) same is) =
@@ -115,7 +116,7 @@ module _ (A : Type 0) (p : Parser A) (S : A → List Lexeme → Type 0) (E F : L
       let stops = longer_read k.used rest x b.value t (e ++ f.rest) (e ++ behind) (b.spells.last ∷ []) k.again is read in
       not_empty e b.further b.next (tail_is t b.spells.last (e ++ behind) [] stops)
 
-  taken_has_no_fault : (left : List Lexeme) (end : TextEnd) (x : A) (rest : List Lexeme) (place : Place) → Takes A S ends left end x rest → ¬ FirstFault A S ends left end place
+  pub taken_has_no_fault : (left : List Lexeme) (end : TextEnd) (x : A) (rest : List Lexeme) (place : Place) → Takes A S ends left end x rest → ¬ FirstFault A S S ends left end place
   taken_has_no_fault left end x rest place t f =
       let k = read_of left end x rest t in
       no_fault_by left end x rest place t.ended k f (compared f.front k.used f.rest rest (sym f.parts ∙ k.parts))
@@ -130,7 +131,7 @@ module _ (A : Type 0) (p : Parser A) (S : A → List Lexeme → Type 0) (E F : L
       let stops = longer_read k.used (t ∷ ts) x b.value t ts (ts ++ b.further) [] k.again refl read in
       absurd cc
 
-  taken_not_inside : (left : List Lexeme) (end : TextEnd) (x : A) (rest : List Lexeme) (fault : LexFault) → Takes A S ends left end x rest → ¬ StopsInside A S left end fault
+  pub taken_not_inside : (left : List Lexeme) (end : TextEnd) (x : A) (rest : List Lexeme) (fault : LexFault) → Takes A S ends left end x rest → ¬ StopsInside A S left end fault
   taken_not_inside left end x rest fault read stops =
       not_inside_by left fault x rest (subst (IsEnded ends rest) stops.faulty read.ended) (read_of left end x rest read) stops.begins
 
@@ -140,41 +141,11 @@ module _ (A : Type 0) (p : Parser A) (S : A → List Lexeme → Type 0) (E F : L
       let with_end = begins_with_end A p S E F good ends follows left b.value b.further b.spells in
       f.1 (begins_less A Ended front t ts (subst (Begins A Ended) parts (begins_of A Ended left with_end)))
 
-  inside_has_no_fault : (left : List Lexeme) (end : TextEnd) (place : Place) (fault : LexFault) → StopsInside A S left end fault → ¬ FirstFault A S ends left end place
+  pub inside_has_no_fault : (left : List Lexeme) (end : TextEnd) (place : Place) (fault : LexFault) → StopsInside A S left end fault → ¬ FirstFault A S S ends left end place
   inside_has_no_fault left end place fault stops f =
       inside_by left f.front f.rest fault place f.parts stops.begins (subst (λ (how : TextEnd). FitsNothing A S ends f.front f.rest how place) stops.faulty f.fault)
 
-  one_taken : (left : List Lexeme) (end : TextEnd) (a b : A) (rest more : List Lexeme) → Takes A S ends left end a rest → Takes A S ends left end b more → (a ≡ b) × (rest ≡ more)
+  pub one_taken : (left : List Lexeme) (end : TextEnd) (a b : A) (rest more : List Lexeme) → Takes A S ends left end a rest → Takes A S ends left end b more → (a ≡ b) × (rest ≡ more)
   one_taken left end a b rest more s t =
       let same = sym (takes_is A p S E F good ends follows left end a rest s) ∙ takes_is A p S E F good ends follows left end b more t in
       (value_is A a b rest more same, rest_is A a b rest more same)
-
-  -- ---- one of them is there
-
-  read_by : (left : List Lexeme) (end : TextEnd) (x : A) (t : Lexeme) (ts : List Lexeme) → p left ≡ Ok (x, t ∷ ts) → (b : Bool) → ends t ≡ b → Answer A S ends left end
-  read_by left end x t ts e true is = taken x (t ∷ ts) (found A p S E F good ends follows left end x (t ∷ ts) e is)
-  read_by left end x t ts e false is = fault_at t.place (unended_first A p S E F good ends follows left end x t ts e is)
-
-  some_read : (left : List Lexeme) (end : TextEnd) (x : A) (rest : List Lexeme) → p left ≡ Ok (x, rest) → Answer A S ends left end
-  some_read left (Finished past) x [] e = taken x [] (found A p S E F good ends follows left (Finished past) x [] e tt)
-  some_read left (Faulty fault) x [] e = inside fault (record { begins = read_inside A p S E F good ends follows left x e; faulty = refl })
-  some_read left end x (t ∷ ts) e = read_by left end x t ts e (ends t) refl
-
-  some_stopped : (left : List Lexeme) (end : TextEnd) (stop : Stop) (rest : List Lexeme) → p left ≡ Err (stop, rest) → Answer A S ends left end
-  some_stopped left (Finished past) stop [] e = fault_at past (stopped_first A p S E F good ends follows left [] (Finished past) past stop e refl)
-  some_stopped left (Faulty fault) stop [] e = inside fault (record { begins = stopped_inside A p S E F good ends follows left stop e; faulty = refl })
-  some_stopped left end stop (t ∷ ts) e = fault_at t.place (stopped_first A p S E F good ends follows left (t ∷ ts) end t.place stop e refl)
-
-  some_by : (left : List Lexeme) (end : TextEnd) (o : Outcome A) → p left ≡ o → Answer A S ends left end
-  some_by left end (Ok r) e = some_read left end r.0 r.1 e
-  some_by left end (Err halt) e = some_stopped left end halt.0 halt.1 e
-
-  pub one_answer : HasOneAnswer A S ends
-  one_answer = record {
-    some = λ left end. some_by left end (p left) refl;
-    one_taken = one_taken;
-    one_fault = one_fault;
-    taken_has_no_fault = taken_has_no_fault;
-    taken_not_inside = taken_not_inside;
-    inside_has_no_fault = inside_has_no_fault;
-  }

@@ -34,7 +34,7 @@ rest_is A a b more rest e = ap (rest_or more) e
 pub first_is : (s t : Lexeme) (more rest : List Lexeme) → s ∷ more ≡ t ∷ rest → s ≡ t
 first_is s t more rest e = cc
 
-not_both : (A : Type 0) (o : Outcome A) (halt : Stop × List Lexeme) (x : A) (rest : List Lexeme) → o ≡ Err halt → o ≡ Ok (x, rest) → ⊥
+pub not_both : (A : Type 0) (o : Outcome A) (halt : Stop × List Lexeme) (x : A) (rest : List Lexeme) → o ≡ Err halt → o ≡ Ok (x, rest) → ⊥
 not_both A o halt x rest e h = absurd cc
 
 -- ---- readers of a language whose values end before such a token, and at the end of the text
@@ -89,13 +89,13 @@ module _ (A : Type 0) (p : Parser A) (S : A → List Lexeme → Type 0) (E F : L
   end_read x tokens w = ap p w.parts ∙ good.complete x w.used (w.last ∷ []) w.spells (follows.before w.last [] w.ends_it)
 
   -- no spelling begins with the tokens up to the one where the reader stops
-  none_begins : (front : List Lexeme) (t : Lexeme) (stop : Stop) → ((other : List Lexeme) → BeginAlike other (t ∷ []) → p (front ++ other) ≡ Err (stop, other)) → ¬ Begins A (WithEnd A S ends) (front ++ (t ∷ []))
+  pub none_begins : (front : List Lexeme) (t : Lexeme) (stop : Stop) → ((other : List Lexeme) → BeginAlike other (t ∷ []) → p (front ++ other) ≡ Err (stop, other)) → ¬ Begins A (WithEnd A S ends) (front ++ (t ∷ []))
   none_begins front t stop again b =
       let whole : (front ++ (t ∷ [])) ++ b.further ≡ front ++ (t ∷ b.further) = append_assoc front (t ∷ []) b.further in
       not_both A (p ((front ++ (t ∷ [])) ++ b.further)) (stop, t ∷ b.further) b.value (b.spells.last ∷ []) (ap p whole ∙ again (t ∷ b.further) refl) (end_read b.value _ b.spells)
 
   -- nor with what was read and a token that doesn't end it
-  none_ends : (front : List Lexeme) (t : Lexeme) (x : A) → ends t ≡ false → ((other : List Lexeme) → BeginAlike other (t ∷ []) → p (front ++ other) ≡ Ok (x, other)) → ¬ Begins A (WithEnd A S ends) (front ++ (t ∷ []))
+  pub none_ends : (front : List Lexeme) (t : Lexeme) (x : A) → ends t ≡ false → ((other : List Lexeme) → BeginAlike other (t ∷ []) → p (front ++ other) ≡ Ok (x, other)) → ¬ Begins A (WithEnd A S ends) (front ++ (t ∷ []))
   none_ends front t x unended again b =
       let whole : (front ++ (t ∷ [])) ++ b.further ≡ front ++ (t ∷ b.further) = append_assoc front (t ∷ []) b.further in
       let same = sym (ap p whole ∙ again (t ∷ b.further) refl) ∙ end_read b.value _ b.spells in
@@ -103,20 +103,20 @@ module _ (A : Type 0) (p : Parser A) (S : A → List Lexeme → Type 0) (E F : L
       let is : Is ends t = subst (Is ends) (sym last) b.spells.ends_it in
       absurd cc
 
-  fits_nothing : (front rest : List Lexeme) (end : TextEnd) (place : Place) (stop : Stop) → place_of rest end ≡ Ok place → ((other : List Lexeme) → BeginAlike other rest → p (front ++ other) ≡ Err (stop, other))
+  pub fits_nothing : (front rest : List Lexeme) (end : TextEnd) (place : Place) (stop : Stop) → place_of rest end ≡ Ok place → ((other : List Lexeme) → BeginAlike other rest → p (front ++ other) ≡ Err (stop, other))
       → FitsNothing A S ends front rest end place
   fits_nothing front [] (Finished past) place stop e again = (cc, λ x s. not_both A (p (front ++ [])) (stop, []) x [] (again [] refl) (good.complete x front [] s follows.at_end))
   fits_nothing front [] (Faulty fault) place stop e again = absurd cc
   fits_nothing front (t ∷ ts) end place stop e again = (cc, none_begins front t stop again)
 
   -- the reader stops at the first fault
-  pub stopped_first : (left rest : List Lexeme) (end : TextEnd) (place : Place) (stop : Stop) → p left ≡ Err (stop, rest) → place_of rest end ≡ Ok place → FirstFault A S ends left end place
+  pub stopped_first : (left rest : List Lexeme) (end : TextEnd) (place : Place) (stop : Stop) → p left ≡ Err (stop, rest) → place_of rest end ≡ Ok place → FirstFault A S S ends left end place
   stopped_first left rest end place stop e at =
       let h = halted A p S E F good left stop rest e in
       record { front = h.front; rest = rest; parts = h.parts; begins = begins_with_end h.front h.value h.others h.begins; fault = fits_nothing h.front rest end place stop at h.again }
 
   -- a token that doesn't end what was read is the first fault
-  pub unended_first : (left : List Lexeme) (end : TextEnd) (x : A) (t : Lexeme) (ts : List Lexeme) → p left ≡ Ok (x, t ∷ ts) → ends t ≡ false → FirstFault A S ends left end t.place
+  pub unended_first : (left : List Lexeme) (end : TextEnd) (x : A) (t : Lexeme) (ts : List Lexeme) → p left ≡ Ok (x, t ∷ ts) → ends t ≡ false → FirstFault A S S ends left end t.place
   unended_first left end x t ts e unended =
       let h = took A p S E F good left x (t ∷ ts) e in
       record {

@@ -13,10 +13,18 @@ pub data Repeated (A : Type 0) (S : A → List Lexeme → Type 0) : List A → L
   none : Repeated A S [] []
   some : (x : A) (xs : List A) (u v : List Lexeme) → S x u → Repeated A S xs v → Repeated A S (x ∷ xs) (u ++ v)
 
+-- x { mark x }
+pub data ListedBy (mark : Lexeme → Bool) (A : Type 0) (S : A → List Lexeme → Type 0) : List A → List Lexeme → Type 0 where
+  last : (x : A) (u : List Lexeme) → S x u → ListedBy mark A S (x ∷ []) u
+  and_more : (x : A) (xs : List A) (m : Lexeme) (u v : List Lexeme) → S x u → Is mark m → ListedBy mark A S xs v → ListedBy mark A S (x ∷ xs) (u ++ (m ∷ v))
+
 -- x { , x }
-pub data Listed (A : Type 0) (S : A → List Lexeme → Type 0) : List A → List Lexeme → Type 0 where
-  last : (x : A) (u : List Lexeme) → S x u → Listed A S (x ∷ []) u
-  and_more : (x : A) (xs : List A) (m : Lexeme) (u v : List Lexeme) → S x u → Is comma m → Listed A S xs v → Listed A S (x ∷ xs) (u ++ (m ∷ v))
+abbrev pub Listed : (A : Type 0) → (A → List Lexeme → Type 0) → List A → List Lexeme → Type 0
+Listed A S = ListedBy comma A S
+
+-- x mark x { mark x }
+pub data SeveralBy (mark : Lexeme → Bool) (A : Type 0) (S : A → List Lexeme → Type 0) : List A → List Lexeme → Type 0 where
+  several : (x : A) (xs : List A) (m : Lexeme) (u v : List Lexeme) → S x u → Is mark m → ListedBy mark A S xs v → SeveralBy mark A S (x ∷ xs) (u ++ (m ∷ v))
 
 -- [ x ]
 pub data Optional (A : Type 0) (S : A → List Lexeme → Type 0) : Option A → List Lexeme → Type 0 where

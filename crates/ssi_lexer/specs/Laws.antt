@@ -1,7 +1,8 @@
 -- What is owed by a reader of a language, as a function of tokens: what it answers was spelled, what is spelled is
 -- read, and where it stops the tokens before begin a spelling. Each way to make a reader of others keeps this.
-use Rattle.std.specs.Prelude.{◌≡◌, Bool, false, List, [], ◌∷◌, ◌++◌, Option, Some, None, Ok, Err}
+use Rattle.std.specs.Prelude.{◌≡◌, ℕ, suc, ◌<◌, ◌≤◌, Bool, false, List, [], ◌∷◌, ◌++◌, length, Option, Some, None, Ok, Err}
 use Rattle.ssi_lexer.specs.declared.wanted.Stop.{Stop}
+use Rattle.ssi_lexer.specs.declared.wanted.Stop.TheVariants as s
 use Rattle.ssi_lexer.specs.Lexemes.{Lexeme}
 use Rattle.ssi_lexer.specs.TokenTests.{Is, sees}
 use Rattle.ssi_lexer.specs.Parsers.{Outcome, Parser}
@@ -58,3 +59,30 @@ pub record Good (A : Type 0) (p : Parser A) (S : A → List Lexeme → Type 0) (
   pub sample : A
   pub text : List Lexeme
   pub sample_is : S sample text
+
+-- the tokens that are left, by what a reader answers
+abbrev pub left_by : {A : Type 0} → Outcome A → List Lexeme
+left_by (Ok r) = r.1
+left_by (Err halt) = halt.1
+
+-- where a reader stops, one that takes a level more stops too, or it goes past a level that was too deep
+abbrev pub GoesPast : {A : Type 0} → Stop → List Lexeme → Outcome A → Type 0
+GoesPast s.Syntax rest deeper = deeper ≡ Err (s.Syntax, rest)
+GoesPast s.TooDeep rest deeper = length (left_by deeper) < length rest
+GoesPast s.Memory rest deeper = ⊥
+
+-- what a reader answers, and one that takes a level more
+abbrev pub Extends : {A : Type 0} → Outcome A → Outcome A → Type 0
+Extends (Ok r) deeper = deeper ≡ Ok r
+Extends (Err halt) deeper = GoesPast halt.0 halt.1 deeper
+
+-- The second reader takes a level more than the first: it does the same, but for levels that were too deep. A reader of a
+-- language without levels takes no more, and never stops at one: it is both.
+pub record Deepens (A : Type 0) (p q : Parser A) : Type 0 where
+  pub extends : (ts : List Lexeme) → Extends (p ts) (q ts)
+  pub no_longer : (ts : List Lexeme) → length (left_by (q ts)) ≤ length ts
+
+-- readers of a language by its depth
+pub record Deep (A : Type 0) (p : ℕ → Parser A) (S : ℕ → A → List Lexeme → Type 0) (E F : List Lexeme → Type 0) : Type 0 where
+  pub good : (depth : ℕ) → Good A (p depth) (S depth) E F
+  pub deepens : (depth : ℕ) → Deepens A (p depth) (p (suc depth))

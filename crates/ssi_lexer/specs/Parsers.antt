@@ -89,18 +89,32 @@ turns test p found ts = many test p (length ts) found ts
 abbrev pub behind : {A : Type 0} → (Lexeme → Bool) → Parser A → Parser A
 behind test p = mapped (λ x. x.1) (tok test & p)
 
+-- one or more, with a mark between
+unfoldable pub separated_by : {A : Type 0} → (Lexeme → Bool) → Parser A → Parser (List A)
+separated_by mark p ts = and_then (p ts) (λ a. turns mark (behind mark p) (a ∷ []))
+
+-- two or more, with a mark between
+unfoldable pub several_by : {A : Type 0} → (Lexeme → Bool) → Parser A → Parser (List A)
+several_by mark p ts = and_then (p ts) (λ a. λ mid. and_then (behind mark p mid) (λ b. turns mark (behind mark p) (a ∷ b ∷ [])))
+
 -- one or more, with a comma between
-unfoldable pub separated : {A : Type 0} → Parser A → Parser (List A)
-separated p ts = and_then (p ts) (λ a. turns comma (behind comma p) (a ∷ []))
+abbrev pub separated : {A : Type 0} → Parser A → Parser (List A)
+separated p = separated_by comma p
+
+-- a level too deep, whatever comes
+unfoldable pub too_deep : {A : Type 0} → Parser A
+too_deep ts = Err (s.TooDeep, ts)
 
 -- what a function that reads so ensures; want of memory says nothing
 abbrev pub Reads : {A : Type 0} → Outcome A → Result A Stop → List Lexeme → Type 0
 Reads outcome (Ok a) new = outcome ≡ Ok (a, new)
 Reads outcome (Err s.Syntax) new = outcome ≡ Err (s.Syntax, new)
+Reads outcome (Err s.TooDeep) new = outcome ≡ Err (s.TooDeep, new)
 Reads outcome (Err s.Memory) new = Unit {0}
 
 -- the same of a function that reads a list
 abbrev pub ReadsAll : {A : Type 0} → Outcome (List A) → Result (Vec A Global) Stop → List Lexeme → Type 0
 ReadsAll outcome (Ok all) new = outcome ≡ Ok (all.items, new)
 ReadsAll outcome (Err s.Syntax) new = outcome ≡ Err (s.Syntax, new)
+ReadsAll outcome (Err s.TooDeep) new = outcome ≡ Err (s.TooDeep, new)
 ReadsAll outcome (Err s.Memory) new = Unit {0}

@@ -1,12 +1,17 @@
--- What a reader of a language answers: that its tokens are a spelling, where no spelling goes on with them, or where
--- the text goes on with no token. A language says which tokens spell which value.
-use Rattle.std.specs.Prelude.{◌≡◌, Bool, List, [], ◌∷◌, ◌++◌, Result, Ok, Err}
+-- What a reader of a language answers: that its tokens are a spelling, where no spelling goes on with them, which token
+-- opens a level too deep, or where the text goes on with no token. A language says which tokens spell which value; one
+-- with levels in one another has a depth, and says it for each.
+use Rattle.std.specs.Prelude.{◌≡◌, ℕ, Bool, List, [], ◌∷◌, ◌++◌, Result, Ok, Err}
 use Rattle.ssi_base.specs.declared.place.Place.{Place}
 use Rattle.ssi_lexer.specs.declared.token.LexFault.{LexFault}
 use Rattle.ssi_lexer.specs.declared.token.TextEnd.{TextEnd}
 use Rattle.ssi_lexer.specs.declared.token.TextEnd.TheVariants.{Finished, Faulty}
 use Rattle.ssi_lexer.specs.Lexemes.{Lexeme}
 use Rattle.ssi_lexer.specs.TokenTests.{Is}
+
+-- depths left aside: the tokens spell the value where levels may lie as deep in one another as they do
+abbrev pub AtAnyDepth : (A : Type 0) → (ℕ → A → List Lexeme → Type 0) → A → List Lexeme → Type 0
+AtAnyDepth A S x tokens = (depth : ℕ) × S depth x tokens
 
 -- some value and some further tokens: these tokens and those spell it
 pub record Begins (A : Type 0) (S : A → List Lexeme → Type 0) (front : List Lexeme) : Type 0 where
@@ -48,13 +53,26 @@ FitsNothing A S ends front [] (Finished past) place = (place ≡ past) × ((x : 
 FitsNothing A S ends front [] (Faulty fault) place = ⊥
 FitsNothing A S ends front (t ∷ ts) end place = (place ≡ t.place) × ¬ Begins A (WithEnd A S ends) (front ++ (t ∷ []))
 
--- The first place where no spelling with its end begins with the tokens so far. With those before some begins, and it goes on.
-pub record FirstFault (A : Type 0) (S : A → List Lexeme → Type 0) (ends : Lexeme → Bool) (left : List Lexeme) (end : TextEnd) (place : Place) : Type 0 where
+-- The first place where no spelling with its end begins with the tokens so far, depths left aside. With those before some
+-- begins within the depths, and it goes on. S is the language within the depths, M the one that leaves them aside.
+pub record FirstFault (A : Type 0) (S M : A → List Lexeme → Type 0) (ends : Lexeme → Bool) (left : List Lexeme) (end : TextEnd) (place : Place) : Type 0 where
   pub front : List Lexeme
   pub rest : List Lexeme
   pub parts : left ≡ front ++ rest
   pub begins : NeedsMore A (WithEnd A S ends) front
-  pub fault : FitsNothing A S ends front rest end place
+  pub fault : FitsNothing A M ends front rest end place
+
+-- The token that opens a level too deep: a spelling begins with the tokens up to and including it, but none within the
+-- depths does. With those before some begins within the depths, and it goes on.
+pub record FirstTooDeep (A : Type 0) (S M : A → List Lexeme → Type 0) (ends : Lexeme → Bool) (left : List Lexeme) (place : Place) : Type 0 where
+  pub front : List Lexeme
+  pub opener : Lexeme
+  pub rest : List Lexeme
+  pub parts : left ≡ front ++ (opener ∷ rest)
+  pub begins : NeedsMore A (WithEnd A S ends) front
+  pub deeper : Begins A M (front ++ (opener ∷ []))
+  pub too_deep : ¬ Begins A (WithEnd A S ends) (front ++ (opener ∷ []))
+  pub there : place ≡ opener.place
 
 -- All tokens that are left begin a spelling, and the text goes on with this fault.
 pub record StopsInside (A : Type 0) (S : A → List Lexeme → Type 0) (left : List Lexeme) (end : TextEnd) (fault : LexFault) : Type 0 where
@@ -65,20 +83,25 @@ pub record StopsInside (A : Type 0) (S : A → List Lexeme → Type 0) (left : L
 abbrev pub HasOneValue : (A : Type 0) → (A → List Lexeme → Type 0) → Type 0
 HasOneValue A S = (a b : A) (tokens : List Lexeme) → S a tokens → S b tokens → a ≡ b
 
--- what tokens and their end have in them: a value that is taken, a fault at a place, or a text that stops inside
-pub data Answer (A : Type 0) (S : A → List Lexeme → Type 0) (ends : Lexeme → Bool) (left : List Lexeme) (end : TextEnd) : Type 0 where
-  taken : (x : A) (rest : List Lexeme) → Takes A S ends left end x rest → Answer A S ends left end
-  fault_at : (place : Place) → FirstFault A S ends left end place → Answer A S ends left end
-  inside : (fault : LexFault) → StopsInside A S left end fault → Answer A S ends left end
+-- what tokens and their end have in them: a value that is taken, a fault at a place, a level too deep, or a text that stops inside
+pub data Answer (A : Type 0) (S M : A → List Lexeme → Type 0) (ends : Lexeme → Bool) (left : List Lexeme) (end : TextEnd) : Type 0 where
+  taken : (x : A) (rest : List Lexeme) → Takes A S ends left end x rest → Answer A S M ends left end
+  fault_at : (place : Place) → FirstFault A S M ends left end place → Answer A S M ends left end
+  too_deep_at : (place : Place) → FirstTooDeep A S M ends left place → Answer A S M ends left end
+  inside : (fault : LexFault) → StopsInside A S left end fault → Answer A S M ends left end
 
 -- Any tokens and their end have exactly one of these in them.
-pub record HasOneAnswer (A : Type 0) (S : A → List Lexeme → Type 0) (ends : Lexeme → Bool) : Type 0 where
-  pub some : (left : List Lexeme) (end : TextEnd) → Answer A S ends left end
+pub record HasOneAnswer (A : Type 0) (S M : A → List Lexeme → Type 0) (ends : Lexeme → Bool) : Type 0 where
+  pub some : (left : List Lexeme) (end : TextEnd) → Answer A S M ends left end
   pub one_taken : (left : List Lexeme) (end : TextEnd) (a b : A) (rest more : List Lexeme) → Takes A S ends left end a rest → Takes A S ends left end b more → (a ≡ b) × (rest ≡ more)
-  pub one_fault : (left : List Lexeme) (end : TextEnd) (p q : Place) → FirstFault A S ends left end p → FirstFault A S ends left end q → p ≡ q
-  pub taken_has_no_fault : (left : List Lexeme) (end : TextEnd) (x : A) (rest : List Lexeme) (p : Place) → Takes A S ends left end x rest → ¬ FirstFault A S ends left end p
+  pub one_fault : (left : List Lexeme) (end : TextEnd) (p q : Place) → FirstFault A S M ends left end p → FirstFault A S M ends left end q → p ≡ q
+  pub one_too_deep : (left : List Lexeme) (p q : Place) → FirstTooDeep A S M ends left p → FirstTooDeep A S M ends left q → p ≡ q
+  pub taken_has_no_fault : (left : List Lexeme) (end : TextEnd) (x : A) (rest : List Lexeme) (p : Place) → Takes A S ends left end x rest → ¬ FirstFault A S M ends left end p
+  pub taken_not_too_deep : (left : List Lexeme) (end : TextEnd) (x : A) (rest : List Lexeme) (p : Place) → Takes A S ends left end x rest → ¬ FirstTooDeep A S M ends left p
   pub taken_not_inside : (left : List Lexeme) (end : TextEnd) (x : A) (rest : List Lexeme) (fault : LexFault) → Takes A S ends left end x rest → ¬ StopsInside A S left end fault
-  pub inside_has_no_fault : (left : List Lexeme) (end : TextEnd) (p : Place) (fault : LexFault) → StopsInside A S left end fault → ¬ FirstFault A S ends left end p
+  pub fault_not_too_deep : (left : List Lexeme) (end : TextEnd) (p q : Place) → FirstFault A S M ends left end p → ¬ FirstTooDeep A S M ends left q
+  pub inside_has_no_fault : (left : List Lexeme) (end : TextEnd) (p : Place) (fault : LexFault) → StopsInside A S left end fault → ¬ FirstFault A S M ends left end p
+  pub inside_not_too_deep : (left : List Lexeme) (end : TextEnd) (p : Place) (fault : LexFault) → StopsInside A S left end fault → ¬ FirstTooDeep A S M ends left p
 
 -- where the tokens go on: the place of the next token or of the end of the text, or the fault
 abbrev pub place_of : List Lexeme → TextEnd → Result Place LexFault

@@ -24,7 +24,7 @@ pub trait Part {
     ghost parser: { Self → List Lexeme → Outcome Self.Tree };
 
     /// Reads it. After an error the tokens stand where they stood, or further on; after `Syntax` before
-    /// the token that fits nothing.
+    /// the token that fits nothing, after `TooDeep` before the one that opens a level too deep.
     fn read(&self, alloc: Global, tokens: &mut Tokens<'_>) -> Result<Self::Tree, Stop>
         ensures reads { Reads (parser self.now tokens.old.left) result tokens.new.left }
         ensures goes_on { GoesOn tokens.old tokens.new };

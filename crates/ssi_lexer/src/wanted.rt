@@ -23,6 +23,8 @@ pub enum Stop {
     /// The next token fits nothing that may stand there, or more is needed where none is left. The
     /// reader stands before that token.
     Syntax,
+    /// The next token opens a level more than may lie in one another. The reader stands before that token.
+    TooDeep,
     /// Memory ran out.
     Memory,
 }
