@@ -39,6 +39,10 @@ deep_then {p = p} {q = q} k l d e = record {
 pub deep_pure : {A : Type 0} (x : A) → Deepens A (pure x) (pure x)
 deep_pure x = record { extends = λ ts. refl; no_longer = λ ts. omega arith }
 
+-- a function of what was read
+pub extends_mapped : {A B : Type 0} (f : A → B) (o deeper : Outcome A) → Extends o deeper → Extends (and_then o (λ x. pure (f x))) (and_then deeper (λ x. pure (f x)))
+extends_mapped f o deeper e = extends_then o deeper (λ x. pure (f x)) (λ x. pure (f x)) e (λ x ts. refl) (λ x ts. omega arith)
+
 pub deep_mapped : {A B : Type 0} {p q : Parser A} (f : A → B) → Deepens A p q → Deepens B (mapped f p) (mapped f q)
 deep_mapped f d = deep_then (λ x. pure (f x)) (λ x. pure (f x)) d (λ x. deep_pure (f x))
 

@@ -68,12 +68,22 @@ identity_not_word kinds letters t e = rw (one_kind t.kind k.Name k.Word refl (an
 pub dot_not_comma : (t : Lexeme) → Is dot t → comma t ≡ false
 dot_not_comma t e = one_kind t.kind k.Dot k.Comma refl e
 
--- a mark is neither a word nor a name
+-- a mark or a number is neither a word nor a name
+pub kind_not_word : (kind : TokenKind) (letters : List ℕ) (t : Lexeme) → is_same_kind kind k.Word ≡ false → Is (of_kind kind) t → word letters t ≡ false
+kind_not_word kind letters t d e = rw (one_kind t.kind kind k.Word d e) refl
+
+pub kind_not_identity : (kind : TokenKind) (kinds : List ℕ) (t : Lexeme) → is_same_kind kind k.Name ≡ false → Is (of_kind kind) t → identity kinds t ≡ false
+kind_not_identity kind kinds t d e = rw (one_kind t.kind kind k.Name d e) refl
+
 pub dot_not_word : (letters : List ℕ) (t : Lexeme) → Is dot t → word letters t ≡ false
-dot_not_word letters t e = rw (one_kind t.kind k.Dot k.Word refl e) refl
+dot_not_word letters t e = kind_not_word k.Dot letters t refl e
 
 pub dot_not_identity : (kinds : List ℕ) (t : Lexeme) → Is dot t → identity kinds t ≡ false
-dot_not_identity kinds t e = rw (one_kind t.kind k.Dot k.Name refl e) refl
+dot_not_identity kinds t e = kind_not_identity k.Dot kinds t refl e
+
+-- the name of an identity is of no other kind
+pub identity_not_kind : (kind : TokenKind) (kinds : List ℕ) (t : Lexeme) → is_same_kind k.Name kind ≡ false → Is (identity kinds) t → of_kind kind t ≡ false
+identity_not_kind kind kinds t d e = one_kind t.kind k.Name kind d (and_left (of_kind k.Name t) (begins_with kinds t.text) e)
 
 pub word_not_number : (letters : List ℕ) (t : Lexeme) → Is (word letters) t → of_kind k.Number t ≡ false
 word_not_number letters t e = one_kind t.kind k.Word k.Number refl (word_kind letters t e)

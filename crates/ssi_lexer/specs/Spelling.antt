@@ -47,6 +47,12 @@ pub record Takes (A : Type 0) (S : A → List Lexeme → Type 0) (ends : Lexeme 
   pub spells : S x used
   pub ended : IsEnded ends rest end
 
+-- exactly the tokens before the rest were taken: they spell the value, whatever comes next
+pub record TakesFront (A : Type 0) (S : A → List Lexeme → Type 0) (left : List Lexeme) (x : A) (rest : List Lexeme) : Type 0 where
+  pub used : List Lexeme
+  pub parts : left ≡ used ++ rest
+  pub spells : S x used
+
 -- Behind these tokens no spelling goes on: at the token that comes next, or at the end of the text where more is needed.
 abbrev pub FitsNothing : (A : Type 0) → (A → List Lexeme → Type 0) → (Lexeme → Bool) → List Lexeme → List Lexeme → TextEnd → Place → Type 0
 FitsNothing A S ends front [] (Finished past) place = (place ≡ past) × ((x : A) → ¬ S x front)
@@ -77,6 +83,11 @@ pub record FirstTooDeep (A : Type 0) (S M : A → List Lexeme → Type 0) (ends 
 -- All tokens that are left begin a spelling, and the text goes on with this fault.
 pub record StopsInside (A : Type 0) (S : A → List Lexeme → Type 0) (left : List Lexeme) (end : TextEnd) (fault : LexFault) : Type 0 where
   pub begins : Begins A S left
+  pub faulty : end ≡ Faulty fault
+
+-- All tokens that are left begin a spelling that needs more of them, and the text goes on with this fault.
+pub record StopsBefore (A : Type 0) (S : A → List Lexeme → Type 0) (left : List Lexeme) (end : TextEnd) (fault : LexFault) : Type 0 where
+  pub begins : NeedsMore A S left
   pub faulty : end ≡ Faulty fault
 
 -- tokens that spell two values spell one

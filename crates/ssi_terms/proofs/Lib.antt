@@ -1,3 +1,6 @@
+pub mod CondRules
+pub mod BodyRules
 pub mod FileHeaders
+pub mod Deepening
 pub mod Endings
 pub mod IdentityFiles

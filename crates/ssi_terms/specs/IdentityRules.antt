@@ -19,7 +19,7 @@ use Rattle.ssi_terms.specs.Tests.{spot_of, points, signal, track, route, subrout
 use Rattle.ssi_terms.specs.Identities.{SpotOf, spot_is, SpellsName, a_name, SpellsPoints, the_points, SpellsRoute, a_route, SpellsLie, a_lie, SpellsLies, the_lies, listed_or_none, SpellsSub, a_sub, SpellsPin, a_pin, SpellsPins, SpellsModule, of_points, of_signals, of_tracks}
 use Rattle.ssi_terms.specs.Read.{spot, name_entry}
 use Rattle.ssi_terms.specs.ReadIdentities as spec
-use Rattle.ssi_terms.specs.Rules.{good_spot, good_word}
+use Rattle.ssi_terms.specs.SpotRules.{good_spot, good_word}
 
 -- ---- names
 

@@ -5,5 +5,5 @@ pub mod Identities
 pub mod Read
 pub mod ReadIdentities
 pub mod Ending
-pub mod Rules
+pub mod SpotRules
 pub mod IdentityRules

@@ -1,11 +1,11 @@
 -- Tests of one token, of which the rules of the data language are made.
-use Rattle.std.specs.Prelude.{ℕ, Bool, ◌||◌, ◌&&◌, codes, List, [], ◌∷◌}
+use Rattle.std.specs.Prelude.{ℕ, Bool, true, not, ◌||◌, ◌&&◌, codes, List, [], ◌∷◌}
 use Rattle.std.specs.List.{list_any}
 use Rattle.std.specs.Str.{bytes_eq}
 use Rattle.ssi_lexer.specs.declared.token.Token.{Token}
 use Rattle.ssi_lexer.specs.Lexemes.{Lexeme, token_of}
-use Rattle.ssi_lexer.specs.declared.token.TokenKind.TheVariants.{Number, Word}
-use Rattle.ssi_lexer.specs.TokenTests.{word, identity, of_kind}
+use Rattle.ssi_lexer.specs.declared.token.TokenKind.TheVariants.{Number, Word, Open, Close}
+use Rattle.ssi_lexer.specs.TokenTests.{comma, word, identity, of_kind}
 use Rattle.ssi_terms.specs.declared.tree.Spot.{Spot}
 
 -- where a token stands in the text
@@ -63,6 +63,25 @@ lie_word lexeme = word (codes "cn") lexeme || word (codes "cr") lexeme
 abbrev pub any_number : Lexeme → Bool
 any_number = of_kind Number
 
+-- `h` for a bit that is to be high, `l` for one that is to be low
+abbrev pub bit_word : Lexeme → Bool
+bit_word lexeme = word (codes "h") lexeme || word (codes "l") lexeme
+
+-- the marks around a group
+abbrev pub opens : Lexeme → Bool
+opens = of_kind Open
+
+abbrev pub closes : Lexeme → Bool
+closes = of_kind Close
+
+-- a token that ends a condition or a body: any but a comma
+abbrev pub ends_list : Lexeme → Bool
+ends_list lexeme = not (comma lexeme)
+
 -- the word that ends a file, since it begins the next
 abbrev pub ends_file : Lexeme → Bool
 ends_file = word (codes "file")
+
+-- any token
+abbrev pub any_token : Lexeme → Bool
+any_token lexeme = true

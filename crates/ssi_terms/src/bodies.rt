@@ -1,131 +1,224 @@
-//! Reads bodies.
+//! Reads commands and bodies.
 
-ghost use Rattle.std.specs.Prelude.{◌≡◌, codes};
-ghost use Rattle.ssi_lexer.specs.Parsers.{Reads, maybe};
+ghost use Rattle.std.specs.Prelude.{◌≡◌, ◌≢◌, List, IfErr, IfOk, MatchResult};
+ghost use Rattle.ssi_base.specs.declared.place.Place.{Place as Where};
+ghost use Rattle.ssi_lexer.specs.declared.token.LexFault.{LexFault};
+ghost use Rattle.ssi_lexer.specs.Lexemes.{Lexeme};
+ghost use Rattle.ssi_lexer.specs.Parsers.{Reads};
 ghost use Rattle.ssi_lexer.specs.Readings.{GoesOn};
-ghost use Rattle.ssi_lexer.specs.TokenTests.{word};
+ghost use Rattle.ssi_lexer.specs.Spelling.{AtAnyDepth, FirstFault, FirstTooDeep, HasOneAnswer, HasOneValue, StopsBefore, StopsInside, Takes, TakesFront};
+ghost use Rattle.ssi_terms.specs.declared.tree.BodyTree.{BodyTree as Tree};
+ghost use Rattle.ssi_terms.specs.declared.tree.CommandTree.{CommandTree as Command};
+ghost use Rattle.ssi_terms.specs.Grammar.{deepest, SpellsBody, SpellsCommand};
 ghost use Rattle.ssi_terms.specs.Read as spec;
+ghost use Rattle.ssi_terms.specs.Tests.{any_token, ends_list};
 
-use crate::conditions::Item;
+use crate::conditions::{MOST_GROUPS, cond_within};
+use crate::ending::{front_ended, list_ended};
+use crate::read_fault::ReadFault;
 use crate::spots::{any_identity, rule_word, token};
-use crate::tree::{BodyTree, CommandTree, CondTree, PartTree};
+use crate::tree::{BodyTree, CommandTree, PartTree};
 use sqlite_items::Items;
-use ssi_lexer::{Part, Stop, Tokens, Wanted, separated};
+use ssi_lexer::{Stop, TokenKind, Tokens, Wanted};
 use std::alloc::Global;
 
-/// A command: a name of any kind but a request's, and the word for its new state.
-pub struct Command;
+/// How many levels of choices a body has at most.
+pub const MOST_CHOICES: u8 = 8;
 
-impl Part for Command {
-    type Tree = PartTree;
+/// Reads a command: a name of any kind but a request's, and the word for its new state.
+#[tactic(auto, unfolding(crate::specs::Read::command))]
+pub fn command(tokens: &mut Tokens<'_>) -> Result<CommandTree, Stop>
+    ensures reads { Reads (spec.command tokens.old.left) result tokens.new.left }
+    ensures stops { IfErr result (λ stop. stop ≡ Stop.Syntax) }
+    ensures goes_on { GoesOn tokens.old tokens.new }
+{
+    let name = any_identity(tokens)?;
+    let word = rule_word(tokens)?;
+    Ok(CommandTree { name, word })
+}
 
-    ghost use Rattle.ssi_terms.specs.Grammar.{SpellsCommand};
-    ghost use Rattle.ssi_terms.specs.Read.{command};
-    ghost use Rattle.ssi_terms.specs.Rules.{good_command};
-
-    ghost language = { λ _. SpellsCommand };
-
-    ghost parser = { λ _. command };
-
-    ghost good = { λ _. good_command };
-
-    #[tactic(auto, unfolding(crate::specs::Read::command))]
-    fn read(&self, _alloc: Global, tokens: &mut Tokens<'_>) -> Result<PartTree, Stop> {
-        let name = any_identity(tokens)?;
-        let word = rule_word(tokens)?;
-        Ok(PartTree::Do(CommandTree { name, word }))
+/// Reads a part of a body, where so many levels of groups and choices may be opened.
+#[cycle(body)]
+#[tactic(auto, unfolding(crate::specs::Read::part_by, ssi_lexer::specs::Parsers::either))]
+fn part(alloc: Global, tokens: &mut Tokens<'_>, groups: u8, choices: u8) -> Result<PartTree, Stop>
+    ensures reads { Reads (spec.part_by (spec.choice groups choices) tokens.old.left) result tokens.new.left }
+    ensures goes_on { GoesOn tokens.old tokens.new }
+{
+    if tokens.sees(Wanted::Word(b"if")) {
+        choice(alloc, tokens, groups, choices)
+    } else {
+        Ok(PartTree::Do(command(tokens)?))
     }
 }
 
-/// A command or a choice.
-pub struct BodyPart;
-
-impl Part for BodyPart {
-    type Tree = PartTree;
-
-    ghost use Rattle.ssi_terms.specs.Grammar.{SpellsPart};
-    ghost use Rattle.ssi_terms.specs.Read.{part};
-    ghost use Rattle.ssi_terms.specs.Rules.{good_part};
-
-    ghost language = { λ _. SpellsPart };
-
-    ghost parser = { λ _. part };
-
-    ghost good = { λ _. good_part };
-
-    #[tactic(auto, unfolding(crate::specs::Read::part, ssi_lexer::specs::Parsers::either))]
-    fn read(&self, alloc: Global, tokens: &mut Tokens<'_>) -> Result<PartTree, Stop> {
-        if tokens.sees(Wanted::Word(b"if")) {
-            choice(alloc, tokens)
-        } else {
-            Command.read(alloc, tokens)
-        }
+/// Reads a choice, where so many levels of groups and choices may be opened.
+#[cycle(body)]
+fn choice(alloc: Global, tokens: &mut Tokens<'_>, groups: u8, choices: u8) -> Result<PartTree, Stop>
+    ensures reads { Reads (spec.choice groups choices tokens.old.left) result tokens.new.left }
+    ensures goes_on { GoesOn tokens.old tokens.new }
+{
+    if choices == 0 {
+        return Err(Stop::TooDeep);
     }
+    opened_choice(alloc, tokens, groups, choices - 1)
 }
 
-/// Reads commands, with `,` between.
-#[tactic(auto, unfolding(crate::specs::Read::commands))]
-fn commands(alloc: Global, tokens: &mut Tokens<'_>) -> Result<BodyTree, Stop>
-    ensures reads { Reads (spec.commands tokens.old.left) result tokens.new.left }
-    ensures goes_on { GoesOn tokens.old tokens.new }
-{
-    let parts = separated(&Command, alloc, tokens)?;
-    Ok(BodyTree {
-        parts: Items::from_vec(parts),
-    })
-}
-
-/// Reads `else` and the commands behind it.
-#[tactic(auto, unfolding(crate::specs::Read::otherwise))]
-fn otherwise(alloc: Global, tokens: &mut Tokens<'_>) -> Result<BodyTree, Stop>
-    ensures reads { Reads (spec.otherwise tokens.old.left) result tokens.new.left }
-    ensures goes_on { GoesOn tokens.old tokens.new }
-{
-    token(tokens, Wanted::Word(b"else"))?;
-    commands(alloc, tokens)
-}
-
-/// Reads `else` and the commands behind it, if it comes.
-#[tactic(auto, unfolding(ssi_lexer::specs::Parsers::maybe))]
-fn maybe_otherwise(alloc: Global, tokens: &mut Tokens<'_>) -> Result<Option<BodyTree>, Stop>
-    ensures reads { Reads (maybe (word (codes "else")) spec.otherwise tokens.old.left) result tokens.new.left }
-    ensures goes_on { GoesOn tokens.old tokens.new }
-{
-    if !tokens.sees(Wanted::Word(b"else")) {
-        return Ok(None);
-    }
-    Ok(Some(otherwise(alloc, tokens)?))
-}
-
-/// Reads a choice.
-#[tactic(auto, unfolding(crate::specs::Read::choice))]
-fn choice(alloc: Global, tokens: &mut Tokens<'_>) -> Result<PartTree, Stop>
-    ensures reads { Reads (spec.choice tokens.old.left) result tokens.new.left }
+/// Reads a choice, inside which so many levels of groups and choices may be opened.
+#[cycle(body)]
+#[tactic(auto, unfolding(crate::specs::Read::choice_by))]
+fn opened_choice(
+    alloc: Global,
+    tokens: &mut Tokens<'_>,
+    groups: u8,
+    choices: u8,
+) -> Result<PartTree, Stop>
+    ensures reads { Reads (spec.choice_by (spec.cond groups) (spec.body groups choices) tokens.old.left) result tokens.new.left }
     ensures goes_on { GoesOn tokens.old tokens.new }
 {
     token(tokens, Wanted::Word(b"if"))?;
-    let items = separated(&Item, alloc, tokens)?;
+    let guard = cond_within(alloc, tokens, groups)?;
     token(tokens, Wanted::Word(b"then"))?;
-    let then_body = commands(alloc, tokens)?;
-    let else_body = maybe_otherwise(alloc, tokens)?;
+    let then_body = body_within(alloc, tokens, groups, choices)?;
+    let else_body = maybe_otherwise(alloc, tokens, groups, choices)?;
     token(tokens, Wanted::Word(b"end"))?;
     Ok(PartTree::If {
-        guard: CondTree {
-            items: Items::from_vec(items),
-        },
+        guard,
         then_body,
         else_body,
     })
 }
 
-/// Reads the parts of a body, with `,` between.
-#[tactic(auto, unfolding(crate::specs::Read::body))]
-pub fn body(alloc: Global, tokens: &mut Tokens<'_>) -> Result<BodyTree, Stop>
-    ensures reads { Reads (spec.body tokens.old.left) result tokens.new.left }
+/// Reads `else` and the body behind it, if it comes.
+#[cycle(body)]
+#[tactic(auto, unfolding(crate::specs::Read::maybe_otherwise_by, ssi_lexer::specs::Parsers::maybe))]
+fn maybe_otherwise(
+    alloc: Global,
+    tokens: &mut Tokens<'_>,
+    groups: u8,
+    choices: u8,
+) -> Result<Option<BodyTree>, Stop>
+    ensures reads { Reads (spec.maybe_otherwise_by (spec.body groups choices) tokens.old.left) result tokens.new.left }
     ensures goes_on { GoesOn tokens.old tokens.new }
 {
-    let parts = separated(&BodyPart, alloc, tokens)?;
+    if !tokens.sees(Wanted::Word(b"else")) {
+        return Ok(None);
+    }
+    Ok(Some(otherwise(alloc, tokens, groups, choices)?))
+}
+
+/// Reads `else` and the body behind it.
+#[cycle(body)]
+#[tactic(auto, unfolding(crate::specs::Read::otherwise_by))]
+fn otherwise(
+    alloc: Global,
+    tokens: &mut Tokens<'_>,
+    groups: u8,
+    choices: u8,
+) -> Result<BodyTree, Stop>
+    ensures reads { Reads (spec.otherwise_by (spec.body groups choices) tokens.old.left) result tokens.new.left }
+    ensures goes_on { GoesOn tokens.old tokens.new }
+{
+    token(tokens, Wanted::Word(b"else"))?;
+    body_within(alloc, tokens, groups, choices)
+}
+
+/// Reads a body, where so many levels of groups and choices may be opened.
+#[cycle(body)]
+#[tactic(auto, unfolding(crate::specs::Read::body, crate::specs::Read::body_by))]
+fn body_within(
+    alloc: Global,
+    tokens: &mut Tokens<'_>,
+    groups: u8,
+    choices: u8,
+) -> Result<BodyTree, Stop>
+    ensures reads { Reads (spec.body groups choices tokens.old.left) result tokens.new.left }
+    ensures goes_on { GoesOn tokens.old tokens.new }
+{
+    let mut parts = Vec::new(alloc);
+    parts.push(part(alloc, tokens, groups, choices)?)?;
+    'parts: while tokens.eat(Wanted::Kind(TokenKind::Comma)) {
+        parts.push(part(alloc, tokens, groups, choices)?)?;
+    }
+    parts.shrink_to_fit();
     Ok(BodyTree {
         parts: Items::from_vec(parts),
     })
 }
+
+/// Reads a body, whatever follows. For readers of the layers above; by `bodies` it reads `SpellsBody`.
+pub fn body(alloc: Global, tokens: &mut Tokens<'_>) -> Result<BodyTree, Stop>
+    ensures reads { Reads (spec.body deepest deepest tokens.old.left) result tokens.new.left }
+    ensures goes_on { GoesOn tokens.old tokens.new }
+{
+    body_within(alloc, tokens, MOST_GROUPS, MOST_CHOICES)
+}
+
+/// Reads a command, whatever follows. Memory is never wanted, and no level is too deep.
+///
+/// Of a lexical and a syntax fault the one that stands first is answered. After an error the tokens stand where they
+/// stood, or further on.
+pub fn read_command(tokens: &mut Tokens<'_>) -> Result<CommandTree, ReadFault>
+    // Exactly the tokens were taken that spell the tree.
+    ensures found { IfOk result (λ tree. TakesFront Command SpellsCommand tokens.old.left tree tokens.new.left) }
+
+    // A command is read.
+    ensures only { (tree : Command) (rest : List Lexeme) → TakesFront Command SpellsCommand tokens.old.left tree rest
+        → (result ≡ Ok tree) × (tokens.new.left ≡ rest) }
+
+    // A syntax fault stands at the first place where no spelling begins with the tokens so far.
+    ensures syntax { (place : Where) → result ≡ Err (ReadFault.Syntax place)
+        → FirstFault Command SpellsCommand SpellsCommand any_token tokens.old.left tokens.old.end place }
+
+    // Before a lexical fault the tokens begin a spelling, and more of them are needed.
+    ensures lexical { (fault : LexFault) → result ≡ Err (ReadFault.Lex fault)
+        → StopsBefore Command SpellsCommand tokens.old.left tokens.old.end fault }
+    ensures never_deep { (place : Where) → result ≢ Err (ReadFault.TooDeep place) }
+    ensures never_memory { result ≢ Err ReadFault.Memory }
+    ensures goes_on { GoesOn tokens.old tokens.new }
+{
+    let read = command(tokens);
+    front_ended(tokens, read)
+}
+
+/// Reads a body. What follows it is anything but `,`, or the end of the text.
+///
+/// Of a lexical fault, a syntax fault and a level too deep the one that stands first is answered. After an error the
+/// tokens stand where they stood, or further on.
+pub fn read_body(alloc: Global, tokens: &mut Tokens<'_>) -> Result<BodyTree, ReadFault>
+    // Exactly the tokens were taken that spell the tree, with eight levels of choices at most, and of groups in each
+    // guard, and no `,` follows.
+    ensures found { IfOk result (λ tree. Takes Tree (SpellsBody deepest) ends_list tokens.old.left tokens.old.end tree tokens.new.left) }
+
+    // Such a body is read, unless memory runs out.
+    ensures only { (tree : Tree) (rest : List Lexeme)
+        → Takes Tree (SpellsBody deepest) ends_list tokens.old.left tokens.old.end tree rest
+        → MatchResult result (λ found. (found ≡ tree) × (tokens.new.left ≡ rest)) (λ fault. fault ≡ ReadFault.Memory) }
+
+    // A syntax fault stands at the first place where no spelling begins with the tokens so far, depths left aside.
+    ensures syntax { (place : Where) → result ≡ Err (ReadFault.Syntax place)
+        → FirstFault Tree (SpellsBody deepest) (AtAnyDepth Tree SpellsBody) ends_list tokens.old.left tokens.old.end place }
+
+    // The parenthesis or the `if` that opens a ninth level is the first token with which none goes on within the depths.
+    ensures too_deep { (place : Where) → result ≡ Err (ReadFault.TooDeep place)
+        → FirstTooDeep Tree (SpellsBody deepest) (AtAnyDepth Tree SpellsBody) ends_list tokens.old.left place }
+
+    // Before a lexical fault the tokens begin a spelling, and more of them are needed.
+    ensures lexical { (fault : LexFault) → result ≡ Err (ReadFault.Lex fault)
+        → StopsInside Tree (SpellsBody deepest) tokens.old.left tokens.old.end fault }
+    ensures goes_on { GoesOn tokens.old tokens.new }
+{
+    let read = body(alloc, tokens);
+    list_ended(tokens, read)
+}
+
+/// What tokens and their end have in them is settled: one body is taken, or one fault stands there.
+pub fn one_body_tree()
+    // Tokens that spell two bodies spell one, depths left aside.
+    ensures tree { HasOneValue Tree (AtAnyDepth Tree SpellsBody) }
+
+    // Exactly one of what `found`, `syntax`, `too_deep` and `lexical` of `read_body` say is true.
+    ensures answer { HasOneAnswer Tree (SpellsBody deepest) (AtAnyDepth Tree SpellsBody) ends_list }
+
+    // Tokens that spell two commands spell one.
+    ensures command { HasOneValue Command SpellsCommand }
+{}

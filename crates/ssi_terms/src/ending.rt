@@ -1,11 +1,12 @@
 //! What comes after a part of the text.
 
 ghost use Rattle.std.specs.Prelude.{◌≡◌, codes};
-ghost use Rattle.ssi_lexer.specs.TokenTests.{sees, word};
-ghost use Rattle.ssi_terms.specs.Ending.{ended, fault_at, if_ended};
+ghost use Rattle.ssi_lexer.specs.TokenTests.{word};
+ghost use Rattle.ssi_terms.specs.Ending.{ended, fault_at, front_ended as front_ended_of, if_ended, too_deep_at};
+ghost use Rattle.ssi_terms.specs.Tests.{ends_list};
 
 use crate::read_fault::ReadFault;
-use ssi_lexer::{Stop, TextEnd, Tokens, Wanted};
+use ssi_lexer::{Stop, TextEnd, TokenKind, Tokens, Wanted};
 
 /// The fault before which the tokens stand.
 fn fault(tokens: &Tokens<'_>) -> ReadFault
@@ -13,6 +14,16 @@ fn fault(tokens: &Tokens<'_>) -> ReadFault
 {
     match tokens.place() {
         Ok(place) => ReadFault::Syntax(place),
+        Err(fault) => ReadFault::Lex(fault),
+    }
+}
+
+/// The level too deep that the next token opens.
+fn too_deep(tokens: &Tokens<'_>) -> ReadFault
+    ensures { result ≡ too_deep_at tokens.now.left tokens.now.end }
+{
+    match tokens.place() {
+        Ok(place) => ReadFault::TooDeep(place),
         Err(fault) => ReadFault::Lex(fault),
     }
 }
@@ -29,6 +40,18 @@ fn if_file_ends<T: Drop>(tokens: &Tokens<'_>, found: T) -> Result<T, ReadFault>
     }
 }
 
+/// What was read, where no `,` comes next, nor a lexical fault.
+fn if_list_ends<T: Drop>(tokens: &Tokens<'_>, found: T) -> Result<T, ReadFault>
+    ensures { result ≡ if_ended ends_list found tokens.now.left tokens.now.end }
+{
+    let faulty = matches!(tokens.end(), Some(TextEnd::Faulty(_)));
+    if faulty || tokens.sees(Wanted::Kind(TokenKind::Comma)) {
+        Err(fault(tokens))
+    } else {
+        Ok(found)
+    }
+}
+
 /// The answer of a reader of files: `file` or the end of the text must follow what it read. For readers of the
 /// layers above; by `told` the answer meets the clauses of a public reader.
 pub fn file_ended<T: Drop>(tokens: &Tokens<'_>, read: Result<T, Stop>) -> Result<T, ReadFault>
@@ -37,6 +60,29 @@ pub fn file_ended<T: Drop>(tokens: &Tokens<'_>, read: Result<T, Stop>) -> Result
     match read {
         Ok(found) => if_file_ends(tokens, found),
         Err(Stop::Syntax) => Err(fault(tokens)),
+        Err(Stop::TooDeep) => Err(too_deep(tokens)),
+        Err(Stop::Memory) => Err(ReadFault::Memory),
+    }
+}
+
+/// The answer of a reader of a part that never wants memory, nor stops at a level, whatever follows it.
+pub fn front_ended<T: Drop>(tokens: &Tokens<'_>, read: Result<T, Stop>) -> Result<T, ReadFault>
+    ensures { result ≡ front_ended_of read tokens.now.left tokens.now.end }
+{
+    match read {
+        Ok(found) => Ok(found),
+        Err(_) => Err(fault(tokens)),
+    }
+}
+
+/// The answer of a reader of a condition or a body: what follows it is anything but `,`, or the end of the text.
+pub fn list_ended<T: Drop>(tokens: &Tokens<'_>, read: Result<T, Stop>) -> Result<T, ReadFault>
+    ensures { result ≡ ended ends_list read tokens.now.left tokens.now.end }
+{
+    match read {
+        Ok(found) => if_list_ends(tokens, found),
+        Err(Stop::Syntax) => Err(fault(tokens)),
+        Err(Stop::TooDeep) => Err(too_deep(tokens)),
         Err(Stop::Memory) => Err(ReadFault::Memory),
     }
 }

@@ -1,4 +1,4 @@
-//! Reads headers of files, and entries.
+//! Reads headers of files, and files.
 
 ghost use Rattle.std.specs.Prelude.{◌≡◌};
 ghost use Rattle.ssi_lexer.specs.Parsers.{Reads, ReadsAll};
@@ -6,49 +6,9 @@ ghost use Rattle.ssi_lexer.specs.Readings.{GoesOn};
 ghost use Rattle.ssi_terms.specs.Read as spec;
 ghost use Rattle.ssi_terms.specs.ReadIdentities.{file as file_of};
 
-use crate::bodies::body;
-use crate::spots::{dot, identity, token};
-use crate::tree::{BodyTree, Spot};
-use ssi_lexer::{Entry, Part, Stop, Tokens, Wanted, entries};
+use crate::spots::token;
+use ssi_lexer::{Entry, Stop, Tokens, Wanted, entries};
 use std::alloc::Global;
-
-/// An entry of PRR: a request's name, its body and `.`.
-pub struct RequestEntry;
-
-impl Part for RequestEntry {
-    type Tree = (Spot, BodyTree);
-
-    ghost use Rattle.ssi_terms.specs.Grammar.{SpellsRequest};
-    ghost use Rattle.ssi_terms.specs.Read.{request_entry};
-    ghost use Rattle.ssi_terms.specs.Rules.{good_request_entry};
-
-    ghost language = { λ _. SpellsRequest };
-
-    ghost parser = { λ _. request_entry };
-
-    ghost good = { λ _. good_request_entry };
-
-    #[tactic(auto, unfolding(crate::specs::Read::request_entry))]
-    fn read(&self, alloc: Global, tokens: &mut Tokens<'_>) -> Result<(Spot, BodyTree), Stop> {
-        let name = identity(tokens, b"Q")?;
-        let body = body(alloc, tokens)?;
-        dot(tokens)?;
-        Ok((name, body))
-    }
-}
-
-impl Entry for RequestEntry {
-    ghost use Rattle.ssi_terms.specs.Tests.{request};
-    ghost use Rattle.ssi_terms.specs.Rules.{request_starts};
-
-    ghost opens = { λ _. request };
-
-    ghost starts = { λ _. request_starts };
-
-    fn begins(&self, tokens: &Tokens<'_>) -> bool {
-        tokens.sees(Wanted::Identity(b"Q"))
-    }
-}
 
 /// Reads a header: `file` and this name. For readers of the layers above, as [`headers`].
 #[tactic(auto, unfolding(crate::specs::Read::header))]

@@ -1,6 +1,6 @@
 //! Reads the files of identities.
 
-ghost use Rattle.std.specs.Prelude.{◌≡◌, List, IfOk, MatchResult, codes};
+ghost use Rattle.std.specs.Prelude.{◌≡◌, ◌≢◌, List, IfOk, MatchResult, codes};
 ghost use Rattle.ssi_base.specs.declared.place.Place.{Place as Where};
 ghost use Rattle.ssi_lexer.specs.declared.token.LexFault.{LexFault};
 ghost use Rattle.ssi_lexer.specs.Lexemes.{Lexeme};
@@ -62,11 +62,14 @@ pub fn read_identities(alloc: Global, tokens: &mut Tokens<'_>) -> Result<Identit
 
     // A syntax fault stands at the first place where no spelling begins with the tokens so far.
     ensures syntax { (place : Where) → result ≡ Err (ReadFault.Syntax place)
-        → FirstFault IdentityText SpellsIdentities ends_file tokens.old.left tokens.old.end place }
+        → FirstFault IdentityText SpellsIdentities SpellsIdentities ends_file tokens.old.left tokens.old.end place }
 
     // Before a lexical fault the tokens begin a spelling, and more of them are needed.
     ensures lexical { (fault : LexFault) → result ≡ Err (ReadFault.Lex fault)
         → StopsInside IdentityText SpellsIdentities tokens.old.left tokens.old.end fault }
+
+    // These files have no levels.
+    ensures never_deep { (place : Where) → result ≢ Err (ReadFault.TooDeep place) }
     ensures goes_on { GoesOn tokens.old tokens.new }
 {
     let read = identity_files(alloc, tokens);
@@ -79,5 +82,5 @@ pub fn one_identity_tree()
     ensures tree { HasOneValue IdentityText SpellsIdentities }
 
     // Exactly one of what `found`, `syntax` and `lexical` of `read_identities` say is true.
-    ensures answer { HasOneAnswer IdentityText SpellsIdentities ends_file }
+    ensures answer { HasOneAnswer IdentityText SpellsIdentities SpellsIdentities ends_file }
 {}

@@ -13,6 +13,9 @@ pub enum ReadFault {
     /// The first place where no spelling begins with the tokens so far.
     #[error("no spelling")]
     Syntax(Place),
+    /// The group or the choice that opens a level more than may lie in one another.
+    #[error("too deep")]
+    TooDeep(Place),
     /// Memory ran out.
     #[error("out of memory")]
     Memory,

@@ -1,6 +1,6 @@
 //! Takes names and words, each as its place in the text.
 
-ghost use Rattle.std.specs.Prelude.{◌≡◌, ◌<◌, ◌||◌, length, IfOk};
+ghost use Rattle.std.specs.Prelude.{◌≡◌, ◌<◌, ◌||◌, length, IfErr, IfOk};
 ghost use Rattle.ssi_lexer.specs.Parsers.{Reads, tok};
 ghost use Rattle.ssi_lexer.specs.Readings.{after_next, GoesOn, IsShort};
 ghost use Rattle.ssi_lexer.specs.TokenTests.{dot as dot_test, identity as identity_test, test_of, word as word_test};
@@ -34,6 +34,7 @@ pub fn dot(tokens: &mut Tokens<'_>) -> Result<Token, Stop>
 #[inline]
 pub fn identity(tokens: &mut Tokens<'_>, letters: &[u8]) -> Result<Spot, Stop>
     ensures reads { Reads (spot_of_test (identity_test letters.now) tokens.old.left) result tokens.new.left }
+    ensures stops { IfErr result (λ stop. stop ≡ Stop.Syntax) }
     ensures goes_on { GoesOn tokens.old tokens.new }
 {
     let token = tokens.take(Wanted::Identity(letters))?;
@@ -94,6 +95,7 @@ pub fn one_of_words(tokens: &mut Tokens<'_>, first: &[u8], second: &[u8]) -> Res
 /// Takes the name of an identity of any kind but a request's, which must come next.
 pub fn any_identity(tokens: &mut Tokens<'_>) -> Result<Spot, Stop>
     ensures reads { Reads (spot_of_test any_identity_test tokens.old.left) result tokens.new.left }
+    ensures stops { IfErr result (λ stop. stop ≡ Stop.Syntax) }
     ensures goes_on { GoesOn tokens.old tokens.new }
 {
     identity(tokens, b"PSTRUL")
@@ -131,6 +133,7 @@ fn is_rule_word(letters: &[u8]) -> bool
 #[tactic(auto, unfolding(crate::specs::Read::spot, ssi_lexer::specs::Parsers::tok))]
 pub fn rule_word(tokens: &mut Tokens<'_>) -> Result<Spot, Stop>
     ensures reads { Reads (spot_of_test rule_word_test tokens.old.left) result tokens.new.left }
+    ensures stops { IfErr result (λ stop. stop ≡ Stop.Syntax) }
     ensures goes_on { GoesOn tokens.old tokens.new }
 {
     match tokens.first() {
