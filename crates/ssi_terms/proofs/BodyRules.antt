@@ -23,30 +23,10 @@ use Rattle.ssi_terms.specs.Tests.{spot_of, any_identity, rule_word}
 use Rattle.ssi_terms.specs.Grammar.{SpellsCond, SpellsCommand, a_command, PartOf, a_do, an_if, BodyOf, ElseOf, an_else, ChoiceOf, a_choice, SpellsChoice, SpellsBodyBy, SpellsBody}
 use Rattle.ssi_terms.specs.SpotRules.{good_word, deep_spot}
 use Rattle.ssi_terms.specs.Read as spec
-use Rattle.ssi_terms.proofs.CondRules.{TwoSpots, two_spots, good_two, starts_two, good_any_identity, good_rule_word, ListEnds, good_cond, deep_cond}
+use Rattle.ssi_terms.specs.CommandRules.{good_command, command_starts}
+use Rattle.ssi_terms.proofs.CondRules.{ListEnds, good_cond, deep_cond}
 
 -- ---- commands
-
-abbrev command_of : Spot → Spot → CommandTree
-command_of name word = record { name = name; word = word }
-
-abbrev CommandText : CommandTree → List Lexeme → Type 0
-CommandText = TwoSpots any_identity rule_word CommandTree command_of
-
-to_command : (x : CommandTree) (u : List Lexeme) → CommandText x u → SpellsCommand x u
-to_command x u (two_spots n w e h) = a_command n w e h
-
-from_command : (x : CommandTree) (u : List Lexeme) → SpellsCommand x u → CommandText x u
-from_command x u (a_command n w e h) = two_spots n w e h
-
-pub good_command : Good CommandTree spec.command SpellsCommand Always Always
-unfolding spec.command
-good_command =
-    good_as CommandTree spec.command CommandText SpellsCommand Always Always Always Always to_command from_command (λ rest k. k) (λ rest k. k)
-    (good_two any_identity rule_word CommandTree command_of good_any_identity good_rule_word)
-
-pub command_starts : (x : CommandTree) (u : List Lexeme) → SpellsCommand x u → StartsWith any_identity u
-command_starts x u (a_command n w e h) = record { first = n; others = w ∷ []; parts = refl; passes = e }
 
 pub deep_command : Deepens CommandTree spec.command spec.command
 unfolding spec.command

@@ -24,37 +24,10 @@ use Rattle.ssi_terms.specs.declared.tree.CondTree.{CondTree}
 use Rattle.ssi_terms.specs.Tests.{spot_of, any_identity, any_number, rule_word, bit_word, opens, closes, ends_list}
 use Rattle.ssi_terms.specs.Identities.{SpotOf, spot_is}
 use Rattle.ssi_terms.specs.Grammar.{ItemOf, a_test, a_bit, a_group, CondOf, GroupOf, the_alternatives, SpellsGroup, SpellsCond}
-use Rattle.ssi_terms.specs.SpotRules.{good_spot, deep_spot}
+use Rattle.ssi_terms.specs.SpotRules.{good_spot, deep_spot, TwoSpots, two_spots, good_two, starts_two, good_any_identity, good_rule_word}
 use Rattle.ssi_terms.specs.Read as spec
 
 -- ---- tests and bits
-
--- two tokens, as their places
-pub data TwoSpots (first second : Lexeme → Bool) (B : Type 0) (f : Spot → Spot → B) : B → List Lexeme → Type 0 where
-  two_spots : (n w : Lexeme) → Is first n → Is second w → TwoSpots first second B f (f (spot_of n) (spot_of w)) (n ∷ w ∷ [])
-
-module _ (first second : Lexeme → Bool) (B : Type 0) (f : Spot → Spot → B) where
-  abbrev Pair : Spot × Spot → List Lexeme → Type 0
-  Pair = Both Spot Spot (SpotOf first) (SpotOf second)
-
-  to_two : (x : Spot × Spot) (u : List Lexeme) → Pair x u → TwoSpots first second B f (f x.0 x.1) u
-  to_two x u (both a b v w (spot_is n e) (spot_is m h)) = two_spots n m e h
-
-  from_two : (y : B) (u : List Lexeme) → TwoSpots first second B f y u → (x : Spot × Spot) × (y ≡ f x.0 x.1) × Pair x u
-  from_two y u (two_spots n m e h) = ((spot_of n, spot_of m), refl, both (spot_of n) (spot_of m) (n ∷ []) (m ∷ []) (spot_is n e) (spot_is m h))
-
-  pub good_two : Good Spot (spec.spot first) (SpotOf first) Always Always → Good Spot (spec.spot second) (SpotOf second) Always Always
-      → Good B (mapped (λ x. f x.0 x.1) (spec.spot first & spec.spot second)) (TwoSpots first second B f) Always Always
-  good_two g h = good_mapped (Spot × Spot) B (λ x. f x.0 x.1) (spec.spot first & spec.spot second) Pair (TwoSpots first second B f) Always Always to_two from_two (joined g h)
-
-  pub starts_two : (x : B) (u : List Lexeme) → TwoSpots first second B f x u → StartsWith first u
-  starts_two x u (two_spots n w e h) = record { first = n; others = w ∷ []; parts = refl; passes = e }
-
-pub good_any_identity : Good Spot (spec.spot any_identity) (SpotOf any_identity) Always Always
-good_any_identity = good_spot any_identity (some_token k.Name (codes "L1")) refl
-
-pub good_rule_word : Good Spot (spec.spot rule_word) (SpotOf rule_word) Always Always
-good_rule_word = good_spot rule_word (some_token k.Word (codes "s")) refl
 
 abbrev TestText : ItemTree → List Lexeme → Type 0
 TestText = TwoSpots any_identity rule_word ItemTree i.Test

@@ -5,7 +5,7 @@ use Rattle.ssi_lexer.specs.Lexemes.{Lexeme}
 use Rattle.ssi_lexer.specs.TokenTests.{Is, identity}
 use Rattle.ssi_lexer.specs.Languages.{Repeated}
 use Rattle.ssi_lexer.specs.Parsers.{Parser, ◌&◌, turns}
-use Rattle.ssi_lexer.specs.Laws.{StartsWith, Lacks, Always, Good}
+use Rattle.ssi_lexer.specs.Laws.{StartsWith, Lacks, Always, Good, Deep}
 use Rattle.ssi_lexer.proofs.Joining.{Both, both, good_mapped}
 use Rattle.ssi_lexer.proofs.Choosing.{Without}
 use Rattle.ssi_lexer.proofs.Repeating.{good_turns}
@@ -19,6 +19,7 @@ use Rattle.ssi_terms.specs.Identities.{SpellsName, SpellsPoints, SpellsRoute, Sp
 use Rattle.ssi_terms.specs.Read as read
 use Rattle.ssi_terms.specs.ReadIdentities as spec
 use Rattle.ssi_terms.specs.IdentityRules.{good_name_entry, name_starts, good_points, points_start, good_route, route_starts, good_sub, sub_starts, good_module, module_starts}
+use Rattle.ssi_terms.proofs.Deepening.{deep_file}
 use Rattle.ssi_terms.proofs.FileHeaders.{AHeader, the_header, good_header}
 
 -- ---- one file
@@ -62,7 +63,7 @@ one_more {A = A} {B = B} {p = p} {q = q} {S = S} {T = T} {test = test} {other = 
 }
 
 -- `file` is no name
-no_identity : (kinds : List ℕ) (t : Lexeme) → Is ends_file t → identity kinds t ≡ false
+pub no_identity : (kinds : List ℕ) (t : Lexeme) → Is ends_file t → identity kinds t ≡ false
 no_identity kinds t e = word_not_identity kinds (codes "file") t e
 
 -- ---- the seven files
@@ -112,11 +113,22 @@ good_identities =
     (last_file (codes "TFM") module_starts good_module)))))) in
     good_mapped Lists IdentityText tree_of _ SevenFiles SpellsIdentities (Lacks any_number) (Without any_number Always) to_identities from_identities files.good
 
--- the files end before `file` and at the end of the text
-pub file_follows : Follows (Without any_number Always) ends_file
-file_follows = record {
+-- a file whose entries begin with such a token ends before `file` and at the end of the text
+pub follows_file : (test : Lexeme → Bool) → ((t : Lexeme) → Is ends_file t → test t ≡ false) → Follows (Without test Always) ends_file
+follows_file test differs = record {
   at_end = record { lacks = refl; too = tt };
-  before = λ t ts e. record { lacks = word_not_number (codes "file") t e; too = tt };
+  before = λ t ts e. record { lacks = differs t e; too = tt };
   some = some_token k.Word (codes "file");
   some_is = refl;
+}
+
+pub file_follows : Follows (Without any_number Always) ends_file
+file_follows = follows_file any_number (λ t e. word_not_number (codes "file") t e)
+
+-- a file, by the depth of its entries
+pub file_by_depth : {A : Type 0} {p : ℕ → Parser A} {S : ℕ → A → List Lexeme → Type 0} (file : List ℕ) (test : Lexeme → Bool) → ((depth : ℕ) (x : A) (u : List Lexeme) → S depth x u → StartsWith test u)
+    → Deep A p S Always Always → Deep (List A) (λ depth. spec.file file test (p depth)) (λ depth. SpellsFile file A (S depth)) (Lacks test) (Without test Always)
+file_by_depth {A = A} {p = p} {S = S} file test starts deep = record {
+  good = λ depth. good_file file A test (p depth) (S depth) (starts depth) (deep.good depth);
+  deepens = λ depth. deep_file file test (deep.deepens depth);
 }

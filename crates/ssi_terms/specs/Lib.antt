@@ -7,3 +7,4 @@ pub mod ReadIdentities
 pub mod Ending
 pub mod SpotRules
 pub mod IdentityRules
+pub mod CommandRules

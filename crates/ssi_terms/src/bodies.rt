@@ -8,7 +8,7 @@ ghost use Rattle.ssi_lexer.specs.Parsers.{Reads};
 ghost use Rattle.ssi_lexer.specs.Readings.{GoesOn};
 ghost use Rattle.ssi_lexer.specs.Spelling.{AtAnyDepth, FirstFault, FirstTooDeep, HasOneAnswer, HasOneValue, StopsBefore, StopsInside, Takes, TakesFront};
 ghost use Rattle.ssi_terms.specs.declared.tree.BodyTree.{BodyTree as Tree};
-ghost use Rattle.ssi_terms.specs.declared.tree.CommandTree.{CommandTree as Command};
+ghost use Rattle.ssi_terms.specs.declared.tree.CommandTree.{CommandTree as CommandOf};
 ghost use Rattle.ssi_terms.specs.Grammar.{deepest, SpellsBody, SpellsCommand};
 ghost use Rattle.ssi_terms.specs.Read as spec;
 ghost use Rattle.ssi_terms.specs.Tests.{any_token, ends_list};
@@ -19,15 +19,35 @@ use crate::read_fault::ReadFault;
 use crate::spots::{any_identity, rule_word, token};
 use crate::tree::{BodyTree, CommandTree, PartTree};
 use sqlite_items::Items;
-use ssi_lexer::{Stop, TokenKind, Tokens, Wanted};
+use ssi_lexer::{Part, Stop, TokenKind, Tokens, Wanted};
 use std::alloc::Global;
 
 /// How many levels of choices a body has at most.
 pub const MOST_CHOICES: u8 = 8;
 
+/// A command, as it stands in lists.
+pub struct Command;
+
+impl Part for Command {
+    type Tree = CommandTree;
+
+    ghost use Rattle.ssi_terms.specs.Read.{command as command_of};
+    ghost use Rattle.ssi_terms.specs.CommandRules.{good_command};
+
+    ghost language = { λ _. SpellsCommand };
+
+    ghost parser = { λ _. command_of };
+
+    ghost good = { λ _. good_command };
+
+    fn read(&self, _alloc: Global, tokens: &mut Tokens<'_>) -> Result<CommandTree, Stop> {
+        one_command(tokens)
+    }
+}
+
 /// Reads a command: a name of any kind but a request's, and the word for its new state.
 #[tactic(auto, unfolding(crate::specs::Read::command))]
-pub fn command(tokens: &mut Tokens<'_>) -> Result<CommandTree, Stop>
+fn one_command(tokens: &mut Tokens<'_>) -> Result<CommandTree, Stop>
     ensures reads { Reads (spec.command tokens.old.left) result tokens.new.left }
     ensures stops { IfErr result (λ stop. stop ≡ Stop.Syntax) }
     ensures goes_on { GoesOn tokens.old tokens.new }
@@ -47,7 +67,7 @@ fn part(alloc: Global, tokens: &mut Tokens<'_>, groups: u8, choices: u8) -> Resu
     if tokens.sees(Wanted::Word(b"if")) {
         choice(alloc, tokens, groups, choices)
     } else {
-        Ok(PartTree::Do(command(tokens)?))
+        Ok(PartTree::Do(one_command(tokens)?))
     }
 }
 
@@ -159,24 +179,24 @@ pub fn body(alloc: Global, tokens: &mut Tokens<'_>) -> Result<BodyTree, Stop>
 /// stood, or further on.
 pub fn read_command(tokens: &mut Tokens<'_>) -> Result<CommandTree, ReadFault>
     // Exactly the tokens were taken that spell the tree.
-    ensures found { IfOk result (λ tree. TakesFront Command SpellsCommand tokens.old.left tree tokens.new.left) }
+    ensures found { IfOk result (λ tree. TakesFront CommandOf SpellsCommand tokens.old.left tree tokens.new.left) }
 
     // A command is read.
-    ensures only { (tree : Command) (rest : List Lexeme) → TakesFront Command SpellsCommand tokens.old.left tree rest
+    ensures only { (tree : CommandOf) (rest : List Lexeme) → TakesFront CommandOf SpellsCommand tokens.old.left tree rest
         → (result ≡ Ok tree) × (tokens.new.left ≡ rest) }
 
     // A syntax fault stands at the first place where no spelling begins with the tokens so far.
     ensures syntax { (place : Where) → result ≡ Err (ReadFault.Syntax place)
-        → FirstFault Command SpellsCommand SpellsCommand any_token tokens.old.left tokens.old.end place }
+        → FirstFault CommandOf SpellsCommand SpellsCommand any_token tokens.old.left tokens.old.end place }
 
     // Before a lexical fault the tokens begin a spelling, and more of them are needed.
     ensures lexical { (fault : LexFault) → result ≡ Err (ReadFault.Lex fault)
-        → StopsBefore Command SpellsCommand tokens.old.left tokens.old.end fault }
+        → StopsBefore CommandOf SpellsCommand tokens.old.left tokens.old.end fault }
     ensures never_deep { (place : Where) → result ≢ Err (ReadFault.TooDeep place) }
     ensures never_memory { result ≢ Err ReadFault.Memory }
     ensures goes_on { GoesOn tokens.old tokens.new }
 {
-    let read = command(tokens);
+    let read = one_command(tokens);
     front_ended(tokens, read)
 }
 
@@ -220,5 +240,5 @@ pub fn one_body_tree()
     ensures answer { HasOneAnswer Tree (SpellsBody deepest) (AtAnyDepth Tree SpellsBody) ends_list }
 
     // Tokens that spell two commands spell one.
-    ensures command { HasOneValue Command SpellsCommand }
+    ensures command { HasOneValue CommandOf SpellsCommand }
 {}

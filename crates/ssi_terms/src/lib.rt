@@ -25,11 +25,12 @@ mod spots;
 mod tests;
 mod tree;
 
-pub use bodies::{body, command, one_body_tree, read_body, read_command};
+pub use bodies::{Command, body, one_body_tree, read_body, read_command};
 pub use conditions::{cond, one_cond_tree, read_cond};
 pub use ending::file_ended;
 pub use files::{file, header, headers};
 pub use identities::{identity_files, one_identity_tree, read_identities};
 pub use identity_tree::{IdentityTree, ModuleEntry, PointsEntry, RouteEntry, SubEntry};
 pub use read_fault::ReadFault;
+pub use spots::{dot, identity, number, one_of_words, token};
 pub use tree::{BodyTree, CommandTree, CondTree, ItemTree, PartTree, Spot};

@@ -4,7 +4,8 @@ use Rattle.ssi_lexer.proofs.Findings.{deep_answer}
 use Rattle.ssi_lexer.proofs.Spellings as flat
 use Rattle.ssi_terms.specs.Grammar.{deepest}
 use Rattle.ssi_terms.proofs.CondRules.{list_follows}
-use Rattle.ssi_terms.proofs.BodyRules.{bodies, good_command}
+use Rattle.ssi_terms.specs.CommandRules.{good_command}
+use Rattle.ssi_terms.proofs.BodyRules.{bodies}
 use Rattle.ssi_terms.proofs.Endings.{Anything}
 use Rattle.ssi_terms.proofs.bodies.one_body_tree.Goals as goal
 
