@@ -1,5 +1,5 @@
 -- Bodies of requests are filled: their trees are, since they are spelled, and their rows are where their trees are.
-use Rattle.std.proofs.Common.{◌≡◌, ℕ, ◌&&◌, Bool, true, false, List, [], ◌∷◌, map, Option, Some, None, refl, ap, sym, ◌∙◌}
+use Rattle.std.proofs.Common.{◌≡◌, ℕ, zero, suc, ◌&&◌, Bool, true, false, codes, List, [], ◌∷◌, map, Option, Some, None, refl, ap, sym, ◌∙◌}
 use Rattle.std.specs.List.{AllByRecursion, list_all}
 use Rattle.std.specs.Option.{option_map}
 use Rattle.ssi_identities.specs.declared.fact.Counts.{Counts}
@@ -10,7 +10,8 @@ use Rattle.ssi_identities.specs.declared.rule.BodyItem.{BodyItem, fold-BodyItem}
 use Rattle.ssi_identities.specs.declared.rule.Body.{Body}
 use Rattle.ssi_identities.proofs.Conditions.{cond_is, lit_is, free_is, any_is}
 use Rattle.ssi_identities.proofs.Bodies.{body_is, do_is, if_is}
-use Rattle.ssi_lexer.specs.Languages.{Listed, last, and_more, Optional, absent, present}
+use Rattle.ssi_lexer.specs.TokenTests.{comma, word}
+use Rattle.ssi_lexer.specs.Languages.{Listed, ListedBy, last, and_more, SeveralBy, several, Optional, absent, present}
 use Rattle.ssi_lexer.specs.Lexemes.{Lexeme}
 use Rattle.ssi_terms.specs.declared.tree.Spot.{Spot}
 use Rattle.ssi_terms.specs.declared.tree.CommandTree.{CommandTree}
@@ -20,7 +21,7 @@ use Rattle.ssi_terms.specs.declared.tree.CondTree.{CondTree}
 use Rattle.ssi_terms.specs.declared.tree.PartTree.{PartTree, fold-PartTree}
 use Rattle.ssi_terms.specs.declared.tree.PartTree.TheVariants as p
 use Rattle.ssi_terms.specs.declared.tree.BodyTree.{BodyTree}
-use Rattle.ssi_terms.specs.Grammar.{SpellsItem, a_test, SpellsCond, SpellsCommand, a_command, SpellsCommands, SpellsElse, an_else, SpellsPart, a_do, an_if, SpellsBody}
+use Rattle.ssi_terms.specs.Grammar.{ItemOf, a_test, a_bit, a_group, CondOf, GroupOf, the_alternatives, SpellsGroup, SpellsCond, PartOf, a_do, an_if, BodyOf, ElseOf, an_else, ChoiceOf, a_choice, SpellsChoice, SpellsBodyBy, SpellsBody}
 use Rattle.ssi_terms.specs.Tests.{spot_of}
 use Rattle.ssi_names.specs.BodyRows as r
 use Rattle.ssi_names.specs.Filled as row
@@ -37,17 +38,22 @@ both : (a b : Bool) → a ≡ true → b ≡ true → (a && b) ≡ true
 both true b e h = h
 both false b e h = absurd cc
 
-all_listed : (X : Type 0) (S : X → List Lexeme → Type 0) (filled : X → Bool) → ((x : X) (tokens : List Lexeme) → S x tokens → filled x ≡ true)
-    → (xs : List X) (tokens : List Lexeme) → Listed X S xs tokens → list_all (λ b. b) (map filled xs) ≡ true
-all_listed X S filled each xs tokens (last y u spells) = both (filled y) true (each y u spells) refl
-all_listed X S filled each xs tokens (and_more y ys m u v spells comma rest) =
-    both (filled y) (list_all (λ b. b) (map filled ys)) (each y u spells) (all_listed X S filled each ys v rest)
+all_listed : (mark : Lexeme → Bool) (X : Type 0) (S : X → List Lexeme → Type 0) (filled : X → Bool) → ((x : X) (tokens : List Lexeme) → S x tokens → filled x ≡ true)
+    → (xs : List X) (tokens : List Lexeme) → ListedBy mark X S xs tokens → list_all (λ b. b) (map filled xs) ≡ true
+all_listed mark X S filled each xs tokens (last y u spells) = both (filled y) true (each y u spells) refl
+all_listed mark X S filled each xs tokens (and_more y ys m u v spells between rest) =
+    both (filled y) (list_all (λ b. b) (map filled ys)) (each y u spells) (all_listed mark X S filled each ys v rest)
 
 -- a list that is spelled is filled where each of its items is
 listed_filled : (X : Type 0) (S : X → List Lexeme → Type 0) (filled : X → Bool) → ((x : X) (tokens : List Lexeme) → S x tokens → filled x ≡ true)
     → (xs : List X) (tokens : List Lexeme) → Listed X S xs tokens → all_filled (map filled xs) ≡ true
-listed_filled X S filled each xs tokens (last y u spells) = all_listed X S filled each xs tokens (last y u spells)
-listed_filled X S filled each xs tokens (and_more y ys m u v spells comma rest) = all_listed X S filled each xs tokens (and_more y ys m u v spells comma rest)
+listed_filled X S filled each xs tokens (last y u spells) = all_listed comma X S filled each xs tokens (last y u spells)
+listed_filled X S filled each xs tokens (and_more y ys m u v spells between rest) = all_listed comma X S filled each xs tokens (and_more y ys m u v spells between rest)
+
+several_filled : (mark : Lexeme → Bool) (X : Type 0) (S : X → List Lexeme → Type 0) (filled : X → Bool) → ((x : X) (tokens : List Lexeme) → S x tokens → filled x ≡ true)
+    → (xs : List X) (tokens : List Lexeme) → SeveralBy mark X S xs tokens → all_filled (map filled xs) ≡ true
+several_filled mark X S filled each xs tokens (several y ys m u v spells between rest) =
+    both (filled y) (list_all (λ b. b) (map filled ys)) (each y u spells) (all_listed mark X S filled each ys v rest)
 
 -- whether an item of a condition, or a part of a body, is filled
 abbrev is_filled_item : ItemTree → Bool
@@ -56,35 +62,62 @@ is_filled_item = fold-ItemTree Bool Bool tree.item_filled tree.cond_filled
 abbrev is_filled_part : PartTree → Bool
 is_filled_part = fold-PartTree Bool Bool tree.part_filled tree.body_filled
 
-item_spelled : (x : ItemTree) (tokens : List Lexeme) → SpellsItem x tokens → is_filled_item x ≡ true
-item_spelled x tokens (a_test n w name word) = tree_test_is Bool Bool tree.item_filled tree.cond_filled (spot_of n) (spot_of w)
+-- items and conditions, where the groups in them are filled
+module _ (G : List CondTree → List Lexeme → Type 0) (groups : (conds : List CondTree) (tokens : List Lexeme) → G conds tokens → all_filled (map tree.is_filled_cond conds) ≡ true) where
+  item_by : (x : ItemTree) (tokens : List Lexeme) → ItemOf G x tokens → is_filled_item x ≡ true
+  item_by x tokens (a_test n w name word) = tree_test_is Bool Bool tree.item_filled tree.cond_filled (spot_of n) (spot_of w)
+  item_by x tokens (a_bit n w number word) = tree_bit_is Bool Bool tree.item_filled tree.cond_filled (spot_of n) (spot_of w)
+  item_by x tokens (a_group conds u group) = tree_any_is Bool Bool tree.item_filled tree.cond_filled conds ∙ groups conds u group
 
-cond_spelled : (x : CondTree) (tokens : List Lexeme) → SpellsCond x tokens → tree.is_filled_cond x ≡ true
-cond_spelled x tokens spelled =
-    tree_cond_is Bool Bool tree.item_filled tree.cond_filled x.items ∙ listed_filled ItemTree SpellsItem is_filled_item item_spelled x.items tokens spelled
+  cond_by : (x : CondTree) (tokens : List Lexeme) → CondOf G x tokens → tree.is_filled_cond x ≡ true
+  cond_by x tokens spelled =
+      tree_cond_is Bool Bool tree.item_filled tree.cond_filled x.items ∙ listed_filled ItemTree (ItemOf G) is_filled_item item_by x.items tokens spelled
 
-command_spelled : (x : PartTree) (tokens : List Lexeme) → SpellsCommand x tokens → is_filled_part x ≡ true
-command_spelled x tokens (a_command n w name word) = tree_do_is Bool Bool tree.part_filled tree.body_filled (record { name = spot_of n; word = spot_of w })
+group_by : (C : CondTree → List Lexeme → Type 0) → ((x : CondTree) (tokens : List Lexeme) → C x tokens → tree.is_filled_cond x ≡ true)
+    → (conds : List CondTree) (tokens : List Lexeme) → GroupOf C conds tokens → all_filled (map tree.is_filled_cond conds) ≡ true
+group_by C each conds tokens (the_alternatives o e cs u opens between closes) = several_filled (word (codes "or")) CondTree C tree.is_filled_cond each cs u between
 
-commands_spelled : (x : BodyTree) (tokens : List Lexeme) → SpellsCommands x tokens → tree.is_filled x ≡ true
-commands_spelled x tokens spelled =
-    tree_body_is Bool Bool tree.part_filled tree.body_filled x.parts ∙ listed_filled PartTree SpellsCommand is_filled_part command_spelled x.parts tokens spelled
+group_spelled : (groups : ℕ) (conds : List CondTree) (tokens : List Lexeme) → SpellsGroup groups conds tokens → all_filled (map tree.is_filled_cond conds) ≡ true
+group_spelled zero conds tokens spelled = absurd spelled
+group_spelled (suc groups) conds tokens spelled = group_by (SpellsCond groups) (cond_by (SpellsGroup groups) (group_spelled groups)) conds tokens spelled
 
-else_spelled : (x : Option BodyTree) (tokens : List Lexeme) → Optional BodyTree SpellsElse x tokens → else_filled (option_map tree.is_filled x) ≡ true
-else_spelled x tokens absent = refl
-else_spelled x tokens (present y u (an_else m body v word spells)) = commands_spelled body v spells
+-- the tree of a condition that is spelled is filled
+pub cond_spelled : (groups : ℕ) (x : CondTree) (tokens : List Lexeme) → SpellsCond groups x tokens → tree.is_filled_cond x ≡ true
+cond_spelled groups = cond_by (SpellsGroup groups) (group_spelled groups)
 
-part_spelled : (x : PartTree) (tokens : List Lexeme) → SpellsPart x tokens → is_filled_part x ≡ true
-part_spelled x tokens (a_do y u spells) = command_spelled y u spells
-part_spelled x tokens (an_if o m e guard body other u v w begins guarded then commands otherwise end) =
-    tree_if_is Bool Bool tree.part_filled tree.body_filled guard body other
-    ∙ both (tree.is_filled_cond guard) (tree.is_filled body && else_filled (option_map tree.is_filled other)) (cond_spelled guard u guarded)
-    (both (tree.is_filled body) (else_filled (option_map tree.is_filled other)) (commands_spelled body v commands) (else_spelled other w otherwise))
+command_spelled : (x : CommandTree) → is_filled_part (p.Do x) ≡ true
+command_spelled x = tree_do_is Bool Bool tree.part_filled tree.body_filled x
+
+-- parts and bodies, where the choices in them are filled
+module _ (C : PartTree → List Lexeme → Type 0) (choices : (x : PartTree) (tokens : List Lexeme) → C x tokens → is_filled_part x ≡ true) where
+  part_by : (x : PartTree) (tokens : List Lexeme) → PartOf C x tokens → is_filled_part x ≡ true
+  part_by x tokens (a_do command u spells) = command_spelled command
+  part_by x tokens (an_if part u spells) = choices part u spells
+
+  body_by : (x : BodyTree) (tokens : List Lexeme) → BodyOf C x tokens → tree.is_filled x ≡ true
+  body_by x tokens spelled = tree_body_is Bool Bool tree.part_filled tree.body_filled x.parts ∙ listed_filled PartTree (PartOf C) is_filled_part part_by x.parts tokens spelled
+
+-- a choice, where its guard and its branches are filled
+module _ (C : CondTree → List Lexeme → Type 0) (B : BodyTree → List Lexeme → Type 0) (guards : (x : CondTree) (tokens : List Lexeme) → C x tokens → tree.is_filled_cond x ≡ true)
+    (branches : (x : BodyTree) (tokens : List Lexeme) → B x tokens → tree.is_filled x ≡ true) where
+  else_by : (x : Option BodyTree) (tokens : List Lexeme) → Optional BodyTree (ElseOf B) x tokens → else_filled (option_map tree.is_filled x) ≡ true
+  else_by x tokens absent = refl
+  else_by x tokens (present y u (an_else m body v word spells)) = branches body v spells
+
+  choice_by : (x : PartTree) (tokens : List Lexeme) → ChoiceOf C B x tokens → is_filled_part x ≡ true
+  choice_by x tokens (a_choice o m e guard body other u v w begins guarded then first otherwise end) =
+      tree_if_is Bool Bool tree.part_filled tree.body_filled guard body other
+      ∙ both (tree.is_filled_cond guard) (tree.is_filled body && else_filled (option_map tree.is_filled other)) (guards guard u guarded)
+      (both (tree.is_filled body) (else_filled (option_map tree.is_filled other)) (branches body v first) (else_by other w otherwise))
+
+choice_spelled : (groups choices : ℕ) (x : PartTree) (tokens : List Lexeme) → SpellsChoice groups choices x tokens → is_filled_part x ≡ true
+choice_spelled groups zero x tokens spelled = absurd spelled
+choice_spelled groups (suc choices) x tokens spelled =
+    choice_by (SpellsCond groups) (SpellsBodyBy groups choices) (cond_spelled groups) (body_by (SpellsChoice groups choices) (choice_spelled groups choices)) x tokens spelled
 
 -- the tree of a body that is spelled is filled
-pub body_spelled : (x : BodyTree) (tokens : List Lexeme) → SpellsBody x tokens → tree.is_filled x ≡ true
-body_spelled x tokens spelled =
-    tree_body_is Bool Bool tree.part_filled tree.body_filled x.parts ∙ listed_filled PartTree SpellsPart is_filled_part part_spelled x.parts tokens spelled
+pub body_spelled : (depth : ℕ) (x : BodyTree) (tokens : List Lexeme) → SpellsBody depth x tokens → tree.is_filled x ≡ true
+body_spelled depth = body_by (SpellsChoice depth depth) (choice_spelled depth depth)
 
 -- ---- rows of trees
 

@@ -14,7 +14,8 @@ use Rattle.ssi_lexer.proofs.Standing.{tokens_stand_in}
 use Rattle.ssi_terms.specs.declared.tree.Spot.{Spot}
 use Rattle.ssi_terms.specs.declared.tree.BodyTree.{BodyTree}
 use Rattle.ssi_terms.specs.Trees.{PointsText, RouteText, SubText, IdentityText}
-use Rattle.ssi_terms.specs.Grammar.{SpellsRequest, a_request}
+use Rattle.ssi_terms.specs.Grammar.{deepest}
+use Rattle.ssi_prr.specs.Requests.{SpellsRequest, a_request}
 use Rattle.ssi_names.specs.SourceTexts.{SourceText}
 use Rattle.ssi_names.specs.Sources.{SpellsSource, the_source}
 use Rattle.ssi_terms.specs.Tests.{spot_of, signal, track, subroute, flag}
@@ -114,14 +115,14 @@ route_short text x tokens (a_route n f s b d subs u is from signal by listed dot
 sub_short : (text : List ℕ) (x : SubText) (tokens : List Lexeme) → SpellsSub x tokens → All (IsToken text) tokens → x.name.len ≤ 16
 sub_short text x tokens (a_sub n o t d lies u is on track listed dot) all = name_short n (codes "U") is (All-head (IsToken text) n (o ∷ t ∷ (u ++ (d ∷ []))) all).formed
 
-request_named : (text : List ℕ) (x : Spot × BodyTree) (tokens : List Lexeme) → SpellsRequest x tokens → All (IsToken text) tokens → IsNameOf Request (characters text x.0)
+request_named : (text : List ℕ) (x : Spot × BodyTree) (tokens : List Lexeme) → SpellsRequest deepest x tokens → All (IsToken text) tokens → IsNameOf Request (characters text x.0)
 request_named text x tokens (a_request n d body u is spells dot) all = named text Request n is (All-head (IsToken text) n (u ++ (d ∷ [])) all)
 
-request_short : (text : List ℕ) (x : Spot × BodyTree) (tokens : List Lexeme) → SpellsRequest x tokens → All (IsToken text) tokens → x.0.len ≤ 16
+request_short : (text : List ℕ) (x : Spot × BodyTree) (tokens : List Lexeme) → SpellsRequest deepest x tokens → All (IsToken text) tokens → x.0.len ≤ 16
 request_short text x tokens (a_request n d body u is spells dot) all = name_short n (codes "Q") is (All-head (IsToken text) n (u ++ (d ∷ [])) all).formed
 
-request_filled : (text : List ℕ) (x : Spot × BodyTree) (tokens : List Lexeme) → SpellsRequest x tokens → All (IsToken text) tokens → is_filled x.1 ≡ true
-request_filled text x tokens (a_request n d body u is spells dot) all = body_spelled body u spells
+request_filled : (text : List ℕ) (x : Spot × BodyTree) (tokens : List Lexeme) → SpellsRequest deepest x tokens → All (IsToken text) tokens → is_filled x.1 ≡ true
+request_filled text x tokens (a_request n d body u is spells dot) all = body_spelled deepest body u spells
 
 -- x { , x } has one x at least
 one_listed : (X : Type 0) (S : X → List Lexeme → Type 0) (xs : List X) (tokens : List Lexeme) → Listed X S xs tokens → 0 < length xs
@@ -171,13 +172,13 @@ identities_formed text tree requests tokens (the_files read pts sig tcs rte sub 
     }
 
 -- the source that is spelled
-source_formed : (text : List ℕ) (tree : SourceText) (tokens : List Lexeme) → SpellsSource tree tokens → All (IsToken text) tokens → IsFormed text tree
+source_formed : (text : List ℕ) (tree : SourceText) (tokens : List Lexeme) → SpellsSource deepest tree tokens → All (IsToken text) tokens → IsFormed text tree
 source_formed text tree tokens (the_source read ids prr others files requests headers) all =
     let from_prr = earlier (IsToken text) prr others (later (IsToken text) ids (prr ++ others) all) in
     identities_formed text read.identities read.requests ids files (earlier (IsToken text) ids (prr ++ others) all)
-    (each_of_file (codes "PRR") (Spot × BodyTree) SpellsRequest (IsToken text) (λ e. e.0.len ≤ 16) (request_short text) read.requests prr requests from_prr)
-    (each_of_file (codes "PRR") (Spot × BodyTree) SpellsRequest (IsToken text) (λ e. is_filled e.1 ≡ true) (request_filled text) read.requests prr requests from_prr)
-    (each_of_file (codes "PRR") (Spot × BodyTree) SpellsRequest (IsToken text) (λ e. IsNameOf Request (characters text e.0)) (request_named text) read.requests prr requests from_prr)
+    (each_of_file (codes "PRR") (Spot × BodyTree) (SpellsRequest deepest) (IsToken text) (λ e. e.0.len ≤ 16) (request_short text) read.requests prr requests from_prr)
+    (each_of_file (codes "PRR") (Spot × BodyTree) (SpellsRequest deepest) (IsToken text) (λ e. is_filled e.1 ≡ true) (request_filled text) read.requests prr requests from_prr)
+    (each_of_file (codes "PRR") (Spot × BodyTree) (SpellsRequest deepest) (IsToken text) (λ e. IsNameOf Request (characters text e.0)) (request_named text) read.requests prr requests from_prr)
 
 -- so it is where it is a piece of the text
 pub text_formed : (text : List ℕ) (tree : SourceText) → IsSpelledIn text tree → IsFormed text tree

@@ -2,6 +2,7 @@
 use Rattle.std.specs.Prelude.{◌≡◌, ℕ, List, ◌++◌}
 use Rattle.ssi_lexer.specs.declared.token.TextEnd.{TextEnd}
 use Rattle.ssi_lexer.specs.Lexemes.{Lexeme, AreTokens}
+use Rattle.ssi_terms.specs.Grammar.{deepest}
 use Rattle.ssi_names.specs.SourceTexts.{SourceText}
 use Rattle.ssi_names.specs.Sources.{SpellsSource}
 
@@ -14,4 +15,4 @@ pub record IsSpelledIn (text : List ℕ) (tree : SourceText) : Type 0 where
   pub files : List Lexeme
   pub after : List Lexeme
   pub parts : lexemes ≡ before ++ (files ++ after)
-  pub spells : SpellsSource tree files
+  pub spells : SpellsSource deepest tree files

@@ -50,7 +50,7 @@ fn faults_by_tables(
         faults.items ≡ faults_by text.now (knows tables.now) (wires tables.now) no_rules tree.now) }
 {
     let mut faults = identity_faults(alloc, text, tables, &tree.identities)?;
-    requests(alloc, text, tables, tree.requests.as_slice(), &mut faults)?;
+    requests(alloc, text, tables, tree.requests.entries.as_slice(), &mut faults)?;
     Ok(faults)
 }
 

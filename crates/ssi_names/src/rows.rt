@@ -267,7 +267,7 @@ pub fn data_set(
         routes: route_rows(alloc, text, tables, files.routes.as_slice())?,
         subs: sub_rows(alloc, text, tables, files.subs.as_slice())?,
         flags: names(alloc, text, files.flags.as_slice())?,
-        requests: request_rows(alloc, text, tables, &counts, tree.requests.as_slice())?,
+        requests: request_rows(alloc, text, tables, &counts, tree.requests.entries.as_slice())?,
         statements: Vec::new(alloc),
         modules: module_rows(alloc, text, tables, files.modules.as_slice())?,
     })

@@ -6,17 +6,16 @@ ghost use Rattle.ssi_lexer.specs.declared.token.LexFault.{LexFault};
 ghost use Rattle.ssi_lexer.specs.Lexemes.{Lexeme};
 ghost use Rattle.ssi_lexer.specs.Parsers.{Reads};
 ghost use Rattle.ssi_lexer.specs.Readings.{GoesOn};
-ghost use Rattle.ssi_lexer.specs.Spelling.{FirstFault, HasOneAnswer, HasOneValue, StopsInside, Takes};
+ghost use Rattle.ssi_lexer.specs.Spelling.{AtAnyDepth, FirstFault, FirstTooDeep, HasOneAnswer, HasOneValue, StopsInside, Takes};
 ghost use Rattle.ssi_names.specs.ReadSource as spec;
 ghost use Rattle.ssi_names.specs.SourceTexts.{SourceText};
 ghost use Rattle.ssi_names.specs.Sources.{SpellsSource};
+ghost use Rattle.ssi_terms.specs.Grammar.{deepest};
 ghost use Rattle.ssi_terms.specs.Tests.{ends_file};
 
 use ssi_lexer::{Stop, Tokens};
-use ssi_terms::{
-    BodyTree, IdentityTree, ReadFault, RequestEntry, Spot, file, file_ended, headers,
-    identity_files,
-};
+use ssi_prr::requests;
+use ssi_terms::{IdentityTree, ReadFault, file_ended, headers, identity_files};
 use std::alloc::Global;
 use std::marker::Model;
 
@@ -28,8 +27,8 @@ const FILES_WITHOUT_ENTRIES: [[u8; 3]; 4] = [*b"PFM", *b"FOP", *b"OPT", *b"IPT"]
 pub struct SourceTree {
     /// The files PTS to TFM.
     pub identities: IdentityTree,
-    /// PRR: each request's name with its body.
-    pub requests: Vec<(Spot, BodyTree)>,
+    /// PRR.
+    pub requests: ssi_prr::FileTree,
 }
 
 impl Model for SourceTree {
@@ -42,17 +41,17 @@ impl Model for SourceTree {
 
     ghost coded = { Prim.hlevel (codes, item_tree.the_row.coded, part_tree.the_row.coded) };
 
-    ghost view = { λ tree. record { identities = tree.identities; requests = tree.requests.items } };
+    ghost view = { λ tree. record { identities = tree.identities; requests = tree.requests } };
 }
 
 /// The files, whatever follows.
 #[tactic(auto, unfolding(crate::specs::ReadSource::source))]
 fn source_files(alloc: Global, tokens: &mut Tokens<'_>) -> Result<SourceTree, Stop>
-    ensures reads { Reads (spec.source tokens.old.left) result tokens.new.left }
+    ensures reads { Reads (spec.source deepest tokens.old.left) result tokens.new.left }
     ensures goes_on { GoesOn tokens.old tokens.new }
 {
     let identities = identity_files(alloc, tokens)?;
-    let requests = file(alloc, tokens, b"PRR", &RequestEntry)?;
+    let requests = requests(alloc, tokens)?;
     headers(tokens, &FILES_WITHOUT_ENTRIES)?;
     Ok(SourceTree {
         identities,
@@ -62,24 +61,28 @@ fn source_files(alloc: Global, tokens: &mut Tokens<'_>) -> Result<SourceTree, St
 
 /// Reads the twelve files of a source, up to the next `file` or the end of the text.
 ///
-/// Of a lexical and a syntax fault the one that stands first is answered. After an error the tokens stand
+/// Of a lexical fault, a syntax fault and a level too deep the one that stands first is answered. After an error the tokens stand
 /// where they stood, or further on.
 pub fn read_source(alloc: Global, tokens: &mut Tokens<'_>) -> Result<SourceTree, ReadFault>
-    // Exactly the tokens were taken that spell the tree, and `file` or the end of the text follows.
-    ensures found { IfOk result (λ tree. Takes SourceText SpellsSource ends_file tokens.old.left tokens.old.end tree tokens.new.left) }
+    // Exactly the tokens were taken that spell the tree within the depths, and `file` or the end of the text follows.
+    ensures found { IfOk result (λ tree. Takes SourceText (SpellsSource deepest) ends_file tokens.old.left tokens.old.end tree tokens.new.left) }
 
     // A source is read, unless memory runs out.
     ensures only { (tree : SourceText) (rest : List Lexeme)
-        → Takes SourceText SpellsSource ends_file tokens.old.left tokens.old.end tree rest
+        → Takes SourceText (SpellsSource deepest) ends_file tokens.old.left tokens.old.end tree rest
         → MatchResult result (λ found. (found ≡ tree) × (tokens.new.left ≡ rest)) (λ fault. fault ≡ ReadFault.Memory) }
 
-    // A syntax fault stands at the first place where no spelling begins with the tokens so far.
+    // A syntax fault stands at the first place where no spelling begins with the tokens so far, depths left aside.
     ensures syntax { (place : Place) → result ≡ Err (ReadFault.Syntax place)
-        → FirstFault SourceText SpellsSource ends_file tokens.old.left tokens.old.end place }
+        → FirstFault SourceText (SpellsSource deepest) (AtAnyDepth SourceText SpellsSource) ends_file tokens.old.left tokens.old.end place }
+
+    // The group or the choice that opens a ninth level is the first token with which none goes on within the depths.
+    ensures too_deep { (place : Place) → result ≡ Err (ReadFault.TooDeep place)
+        → FirstTooDeep SourceText (SpellsSource deepest) (AtAnyDepth SourceText SpellsSource) ends_file tokens.old.left place }
 
     // Before a lexical fault the tokens begin a spelling, and more of them are needed.
     ensures lexical { (fault : LexFault) → result ≡ Err (ReadFault.Lex fault)
-        → StopsInside SourceText SpellsSource tokens.old.left tokens.old.end fault }
+        → StopsInside SourceText (SpellsSource deepest) tokens.old.left tokens.old.end fault }
     ensures goes_on { GoesOn tokens.old tokens.new }
 {
     let read = source_files(alloc, tokens);
@@ -88,9 +91,9 @@ pub fn read_source(alloc: Global, tokens: &mut Tokens<'_>) -> Result<SourceTree,
 
 /// What tokens and their end have in them is settled: one source is taken, or one fault stands there.
 pub fn one_source_tree()
-    // Tokens that spell two sources spell one.
-    ensures tree { HasOneValue SourceText SpellsSource }
+    // Tokens that spell two sources spell one, depths left aside.
+    ensures tree { HasOneValue SourceText (AtAnyDepth SourceText SpellsSource) }
 
-    // Exactly one of what `found`, `syntax` and `lexical` of `read_source` say is true.
-    ensures answer { HasOneAnswer SourceText SpellsSource ends_file }
+    // Exactly one of what `found`, `syntax`, `too_deep` and `lexical` of `read_source` say is true.
+    ensures answer { HasOneAnswer SourceText (SpellsSource deepest) (AtAnyDepth SourceText SpellsSource) ends_file }
 {}

@@ -54,7 +54,7 @@ pub fn is_known(tables: &Tables, kind: Kind, name: &[u8]) -> bool
 pub fn tables_of(alloc: Global, text: &[u8], tree: &SourceTree) -> Result<Tables, OutOfMemory>
     ensures { IfOk result (AreTablesOf text.now tree.now) }
 {
-    tables_of_files(alloc, text, &tree.identities, tree.requests.as_slice())
+    tables_of_files(alloc, text, &tree.identities, tree.requests.entries.as_slice())
 }
 
 /// The tables of the files of identities and of PRR.

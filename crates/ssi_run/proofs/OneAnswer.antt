@@ -4,17 +4,18 @@ use Rattle.ssi_lexer.specs.declared.token.LexFault.{LexFault}
 use Rattle.ssi_lexer.specs.declared.token.TextEnd.{TextEnd}
 use Rattle.ssi_lexer.specs.declared.token.TextEnd.TheVariants.{Faulty}
 use Rattle.ssi_lexer.specs.Lexemes.{Lexeme, AreTokens}
-use Rattle.ssi_lexer.specs.Spelling.{HasOneAnswer as HasOneFinding}
+use Rattle.ssi_lexer.specs.Spelling.{AtAnyDepth, HasOneAnswer as HasOneFinding}
 use Rattle.ssi_identities.specs.DataSets.{Plan, names_in}
 use Rattle.ssi_identities.specs.declared.fact.Kind.TheVariants.{Request}
+use Rattle.ssi_terms.specs.Grammar.{deepest}
 use Rattle.ssi_terms.specs.Tests.{ends_file}
 use Rattle.ssi_names.specs.SourceTexts.{SourceText}
 use Rattle.ssi_names.specs.Sources.{SpellsSource}
 use Rattle.ssi_run.specs.declared.words.Command.{Command}
 use Rattle.ssi_run.specs.declared.words.Command.TheVariants.{Run}
-use Rattle.ssi_run.specs.FaultLines.{lexical_line, syntax_line}
+use Rattle.ssi_run.specs.FaultLines.{lexical_line, syntax_line, depth_line}
 use Rattle.ssi_run.specs.Traces.{trace_of}
-use Rattle.ssi_run.specs.Answers.{Answer, faulty, done, PlanAnswers, a_trace, later, TreeAnswers, name_faults, a_plan, TokenAnswers, no_token, no_spelling, a_tree, InputAnswers, RunAnswers, within, too_large, CommandAnswers, HasOneAnswer}
+use Rattle.ssi_run.specs.Answers.{Answer, faulty, done, PlanAnswers, a_trace, later, TreeAnswers, name_faults, a_plan, TokenAnswers, no_token, no_spelling, too_deep, a_tree, InputAnswers, RunAnswers, within, too_large, CommandAnswers, HasOneAnswer}
 use Rattle.ssi_run.specs.Words.{command_of}
 use Rattle.ssi_run.proofs.ScriptLaws.{same_script}
 
@@ -31,7 +32,7 @@ module _ (input : List ℕ) (script : List Lexeme) (end : TextEnd) where
   one_tree tree a b (a_plan x none p) (name_faults some) = absurd (some none)
   one_tree tree a b (a_plan x none p) (a_plan y nothing q) = one_plan _ x y p q
 
-module _ (findings : HasOneFinding SourceText SpellsSource ends_file)
+module _ (findings : HasOneFinding SourceText (SpellsSource deepest) (AtAnyDepth SourceText SpellsSource) ends_file)
     (cuttings : (text : List ℕ) (start : ℕ) (a b : List Lexeme) (e f : TextEnd) → AreTokens text start a e → AreTokens text start b f → (a ≡ b) × (e ≡ f)) where
   module _ (input : List ℕ) (lexemes : List Lexeme) (end : TextEnd) where
     same_tree : (tree other : SourceText) (script more : List Lexeme) (a b : Answer) → (tree ≡ other) × (script ≡ more) → TreeAnswers input tree script end a → TreeAnswers input other more end b → a ≡ b
@@ -46,12 +47,19 @@ module _ (findings : HasOneFinding SourceText SpellsSource ends_file)
     one_token : (a b : Answer) → TokenAnswers input lexemes end a → TokenAnswers input lexemes end b → a ≡ b
     one_token a b (no_token f i) (no_token g j) = ap (λ fault. faulty (lexical_line fault)) (same_fault f g i.faulty j.faulty)
     one_token a b (no_token f i) (no_spelling q v) = absurd (findings.inside_has_no_fault lexemes end q f i v)
+    one_token a b (no_token f i) (too_deep q v) = absurd (findings.inside_not_too_deep lexemes end q f i v)
     one_token a b (no_token f i) (a_tree tree script y takes t) = absurd (findings.taken_not_inside lexemes end tree script f takes i)
     one_token a b (no_spelling p u) (no_token g j) = absurd (findings.inside_has_no_fault lexemes end p g j u)
     one_token a b (no_spelling p u) (no_spelling q v) = ap (λ place. faulty (syntax_line place)) (findings.one_fault lexemes end p q u v)
+    one_token a b (no_spelling p u) (too_deep q v) = absurd (findings.fault_not_too_deep lexemes end p q u v)
     one_token a b (no_spelling p u) (a_tree tree script y takes t) = absurd (findings.taken_has_no_fault lexemes end tree script p takes u)
+    one_token a b (too_deep p u) (no_token g j) = absurd (findings.inside_not_too_deep lexemes end p g j u)
+    one_token a b (too_deep p u) (no_spelling q v) = absurd (findings.fault_not_too_deep lexemes end q p v u)
+    one_token a b (too_deep p u) (too_deep q v) = ap (λ place. faulty (depth_line place)) (findings.one_too_deep lexemes p q u v)
+    one_token a b (too_deep p u) (a_tree tree script y takes t) = absurd (findings.taken_not_too_deep lexemes end tree script p takes u)
     one_token a b (a_tree tree script x takes t) (no_token g j) = absurd (findings.taken_not_inside lexemes end tree script g takes j)
     one_token a b (a_tree tree script x takes t) (no_spelling q v) = absurd (findings.taken_has_no_fault lexemes end tree script q takes v)
+    one_token a b (a_tree tree script x takes t) (too_deep q v) = absurd (findings.taken_not_too_deep lexemes end tree script q takes v)
     one_token a b (a_tree tree script x takes t) (a_tree other more y also u) =
         same_tree tree other script more x y (findings.one_taken lexemes end tree other script more takes also) t u
 

@@ -7,7 +7,7 @@ use Rattle.ssi_base.specs.Streams.{Writes}
 use Rattle.ssi_run.specs.declared.status.Status.{Status}
 use Rattle.ssi_run.specs.declared.status.Status.TheVariants.{Done, Faulty, NoShape, SourceFault, SinkFault, NoMemory, PastLimit}
 use Rattle.ssi_run.specs.Statuses.{statuses, number_of}
-use Rattle.ssi_run.specs.Answers.{Answer, PlanAnswers, a_trace, later, TreeAnswers, name_faults, a_plan, TokenAnswers, no_token, no_spelling, a_tree, InputAnswers, RunAnswers, within, too_large}
+use Rattle.ssi_run.specs.Answers.{Answer, PlanAnswers, a_trace, later, TreeAnswers, name_faults, a_plan, TokenAnswers, no_token, no_spelling, too_deep, a_tree, InputAnswers, RunAnswers, within, too_large}
 use Rattle.ssi_run.specs.Outcomes.{Replies, told_of}
 
 -- ---- what is told of what was written
@@ -81,6 +81,7 @@ tree_status x (a_plan y none p) = plan_status y p
 token_status : {input : List ℕ} {lexemes : _} {end : _} (x : Answer) → TokenAnswers input lexemes end x → (x.status ≡ statuses.done) ⊎ (x.status ≡ statuses.faulty)
 token_status x (no_token fault inside) = inr refl
 token_status x (no_spelling place fault) = inr refl
+token_status x (too_deep place fault) = inr refl
 token_status x (a_tree tree script y takes t) = tree_status y t
 
 -- an input within the limit is run, or has faults

@@ -20,7 +20,8 @@ use Rattle.ssi_run.proofs.StepLaws.{both_ways, some_and_none, one_found, one_val
 use Rattle.ssi_run.proofs.ScriptLaws.{no_header, a_script, steps_behind}
 use Rattle.ssi_identities.specs.DataSets.{Plan, names_in}
 use Rattle.ssi_identities.specs.declared.fact.Kind.TheVariants.{Request}
-use Rattle.ssi_lexer.specs.Spelling.{Answer as Finding, taken, fault_at, inside, HasOneAnswer as HasOneFinding}
+use Rattle.ssi_lexer.specs.Spelling.{AtAnyDepth, Answer as Finding, taken, fault_at, too_deep_at, inside, HasOneAnswer as HasOneFinding}
+use Rattle.ssi_terms.specs.Grammar.{deepest}
 use Rattle.ssi_terms.specs.Tests.{ends_file}
 use Rattle.ssi_names.specs.SourceTexts.{SourceText}
 use Rattle.ssi_names.specs.Sources.{SpellsSource}
@@ -28,10 +29,10 @@ use Rattle.ssi_names.specs.Faults.{faults_of}
 use Rattle.ssi_names.specs.Rows.{resolved}
 use Rattle.ssi_run.specs.declared.words.Command.{Command}
 use Rattle.ssi_run.specs.declared.words.Command.TheVariants.{Run}
-use Rattle.ssi_run.specs.FaultLines.{lexical_line, syntax_line, name_fault_lines}
+use Rattle.ssi_run.specs.FaultLines.{lexical_line, syntax_line, depth_line, name_fault_lines}
 use Rattle.ssi_run.specs.Statuses.{statuses, input_limit, usage_line, later_line, too_large_line}
 use Rattle.ssi_run.specs.Traces.{cycles_in, trace_of}
-use Rattle.ssi_run.specs.Answers.{Answer, faulty, done, IsRun, PlanAnswers, a_trace, later, TreeAnswers, name_faults, a_plan, TokenAnswers, no_token, no_spelling, a_tree, InputAnswers, RunAnswers, within, too_large, CommandAnswers, HasAnAnswer}
+use Rattle.ssi_run.specs.Answers.{Answer, faulty, done, IsRun, PlanAnswers, a_trace, later, TreeAnswers, name_faults, a_plan, TokenAnswers, no_token, no_spelling, too_deep, a_tree, InputAnswers, RunAnswers, within, too_large, CommandAnswers, HasAnAnswer}
 use Rattle.ssi_run.specs.Words.{command_of}
 
 -- ---- steps or none
@@ -140,11 +141,12 @@ module _ (input : List ℕ) (script : List Lexeme) (end : TextEnd) where
   tree_answer : (tree : SourceText) → (answer : Answer) × TreeAnswers input tree script end answer
   tree_answer tree = tree_by tree (empty_or_not (faults_of input tree))
 
-module _ (findings : HasOneFinding SourceText SpellsSource ends_file)
+module _ (findings : HasOneFinding SourceText (SpellsSource deepest) (AtAnyDepth SourceText SpellsSource) ends_file)
     (cuttings : (text : List ℕ) (start : ℕ) → (lexemes : List Lexeme) × (end : TextEnd) × AreTokens text start lexemes end) where
-  token_by : (input : List ℕ) (lexemes : List Lexeme) (end : TextEnd) → Finding SourceText SpellsSource ends_file lexemes end → (answer : Answer) × TokenAnswers input lexemes end answer
+  token_by : (input : List ℕ) (lexemes : List Lexeme) (end : TextEnd) → Finding SourceText (SpellsSource deepest) (AtAnyDepth SourceText SpellsSource) ends_file lexemes end → (answer : Answer) × TokenAnswers input lexemes end answer
   token_by input lexemes end (taken tree script takes) = let t = tree_answer input script end tree in (t.0, a_tree tree script t.0 takes t.1)
   token_by input lexemes end (fault_at place fault) = (faulty (syntax_line place), no_spelling place fault)
+  token_by input lexemes end (too_deep_at place fault) = (faulty (depth_line place), too_deep place fault)
   token_by input lexemes end (inside fault stops) = (faulty (lexical_line fault), no_token fault stops)
 
   input_answer : (input : List ℕ) → (answer : Answer) × InputAnswers input answer

@@ -72,9 +72,10 @@ pub missing : {A : Type 0} (value : Option A) (refusal : Refusal) → refusal �
 missing value Later e none = none
 missing value Memory e none = absurd cc
 
--- a stop that the program tells as `Later` is one of syntax
-pub stopped_by : (A : Type 0) (outcome : Outcome A) (stop : Stop) (new : List Lexeme) → refusal_of_stop stop ≡ Later → Reads {A = A} outcome (Err stop) new → outcome ≡ Err (s.Syntax, new)
+-- a stop that the program tells as `Later` is the reader's
+pub stopped_by : (A : Type 0) (outcome : Outcome A) (stop : Stop) (new : List Lexeme) → refusal_of_stop stop ≡ Later → Reads {A = A} outcome (Err stop) new → outcome ≡ Err (stop, new)
 stopped_by A outcome s.Syntax new e r = r
+stopped_by A outcome s.TooDeep new e r = r
 stopped_by A outcome s.Memory new e r = absurd cc
 
 -- ---- lists of what may be missing

@@ -7,7 +7,8 @@ use Rattle.ssi_base.specs.Streams.{AppendsPart}
 use Rattle.ssi_lexer.specs.declared.token.LexFault.{LexFault}
 use Rattle.ssi_lexer.specs.declared.token.TextEnd.{TextEnd}
 use Rattle.ssi_lexer.specs.Lexemes.{Lexeme, AreTokens}
-use Rattle.ssi_lexer.specs.Spelling.{Takes, FirstFault, StopsInside}
+use Rattle.ssi_lexer.specs.Spelling.{AtAnyDepth, Takes, FirstFault, FirstTooDeep, StopsInside}
+use Rattle.ssi_terms.specs.Grammar.{deepest}
 use Rattle.ssi_terms.specs.Tests.{ends_file}
 use Rattle.ssi_identities.specs.DataSets.{Plan, names_in}
 use Rattle.ssi_identities.specs.declared.fact.Kind.TheVariants.{Request}
@@ -18,7 +19,7 @@ use Rattle.ssi_names.specs.Rows.{resolved}
 use Rattle.ssi_run.specs.declared.script.ScriptStep.{ScriptStep}
 use Rattle.ssi_run.specs.declared.words.Command.{Command}
 use Rattle.ssi_run.specs.declared.words.Command.TheVariants.{Run}
-use Rattle.ssi_run.specs.FaultLines.{lexical_line, syntax_line, name_fault_lines}
+use Rattle.ssi_run.specs.FaultLines.{lexical_line, syntax_line, depth_line, name_fault_lines}
 use Rattle.ssi_run.specs.Statuses.{statuses, input_limit, usage_line, too_large_line, later_line}
 use Rattle.ssi_run.specs.Scripts.{IsScript}
 use Rattle.ssi_run.specs.Traces.{trace_of}
@@ -55,9 +56,10 @@ pub data TreeAnswers (input : List ℕ) (tree : SourceText) (script : List Lexem
 
 -- What is answered to the tokens of an input: the first fault of its data part, or what its tree is answered.
 pub data TokenAnswers (input : List ℕ) (lexemes : List Lexeme) (end : TextEnd) : Answer → Type 0 where
-  no_token : (fault : LexFault) → StopsInside SourceText SpellsSource lexemes end fault → TokenAnswers input lexemes end (faulty (lexical_line fault))
-  no_spelling : (place : Place) → FirstFault SourceText SpellsSource ends_file lexemes end place → TokenAnswers input lexemes end (faulty (syntax_line place))
-  a_tree : (tree : SourceText) (script : List Lexeme) (answer : Answer) → Takes SourceText SpellsSource ends_file lexemes end tree script
+  no_token : (fault : LexFault) → StopsInside SourceText (SpellsSource deepest) lexemes end fault → TokenAnswers input lexemes end (faulty (lexical_line fault))
+  no_spelling : (place : Place) → FirstFault SourceText (SpellsSource deepest) (AtAnyDepth SourceText SpellsSource) ends_file lexemes end place → TokenAnswers input lexemes end (faulty (syntax_line place))
+  too_deep : (place : Place) → FirstTooDeep SourceText (SpellsSource deepest) (AtAnyDepth SourceText SpellsSource) ends_file lexemes place → TokenAnswers input lexemes end (faulty (depth_line place))
+  a_tree : (tree : SourceText) (script : List Lexeme) (answer : Answer) → Takes SourceText (SpellsSource deepest) ends_file lexemes end tree script
       → TreeAnswers input tree script end answer → TokenAnswers input lexemes end answer
 
 -- what `run` answers to an input within the limit: what its tokens are answered

@@ -18,6 +18,10 @@ lexical_line fault = fault_at fault.place ++ (codes " L" ++ decimal fault.code) 
 abbrev pub syntax_line : Place → List ℕ
 syntax_line place = fault_at place ++ codes " S1\n"
 
+-- a group or a choice is opened there that lies too deep in others
+abbrev pub depth_line : Place → List ℕ
+depth_line place = fault_at place ++ codes " S2\n"
+
 -- a name, a word or a number has a fault
 abbrev pub name_fault_line : List ℕ → Fault → List ℕ
 name_fault_line text fault = fault_at fault.spot.place ++ (codes " N" ++ decimal fault.code) ++ (codes " " ++ characters text fault.spot ++ codes "\n")

@@ -7,4 +7,5 @@ use Rattle.ssi_run.specs.declared.refusal.Refusal.TheVariants.{Later, Memory}
 -- a reader stopped
 abbrev pub refusal_of_stop : Stop → Refusal
 refusal_of_stop stop.Syntax = Later
+refusal_of_stop stop.TooDeep = Later
 refusal_of_stop stop.Memory = Memory

@@ -3,7 +3,7 @@
 ghost use Rattle.std.specs.Prelude.{◌++◌, codes, decimal};
 ghost use Rattle.ssi_base.specs.Streams.{Writes};
 ghost use Rattle.ssi_names.specs.Texts.{characters};
-ghost use Rattle.ssi_run.specs.FaultLines.{fault_at, lexical_line, name_fault_line, name_fault_lines, syntax_line};
+ghost use Rattle.ssi_run.specs.FaultLines.{depth_line, fault_at, lexical_line, name_fault_line, name_fault_lines, syntax_line};
 
 use crate::pieces::{write_three, write_two};
 use ssi_base::{Failed, Place, Sink, decimal, write_all};
@@ -55,6 +55,16 @@ pub fn write_syntax_fault<K: Sink>(sink: &mut K, place: Place) -> Result<(), Fai
 {
     write_fault_at(sink, place)?;
     write_all(sink, b" S1\n")
+}
+
+/// Writes the line of a level too deep.
+#[tactic(auto, using(ssi_base::proofs::Writing::joins))]
+pub fn write_depth_fault<K: Sink>(sink: &mut K, place: Place) -> Result<(), Failed>
+    ensures { Writes (K.written sink.old) (K.written sink.new) (K.faults sink.old) (K.faults sink.new)
+        (depth_line place) result }
+{
+    write_fault_at(sink, place)?;
+    write_all(sink, b" S2\n")
 }
 
 /// Writes the line of a name's fault.

@@ -11,7 +11,7 @@ ghost use Rattle.ssi_run.specs.Traces.{cycles_in, trace_of};
 ghost use Rattle.ssi_run.specs.Answers.{InputAnswers, IsRun, PlanAnswers, TreeAnswers, done};
 ghost use Rattle.ssi_run.specs.Outcomes.{Replies};
 
-use crate::fault_lines::{write_lexical_fault, write_name_faults, write_syntax_fault};
+use crate::fault_lines::{write_depth_fault, write_lexical_fault, write_name_faults, write_syntax_fault};
 use crate::interlocking::Interlocking;
 use crate::refusal::Refusal;
 use crate::requests::request_names;
@@ -126,6 +126,7 @@ pub fn run_input<K: Sink>(alloc: Global, input: &[u8], sink: &mut K) -> Result<S
         Ok(tree) => run_tree(alloc, input, &tree, &mut tokens, sink),
         Err(ReadFault::Lex(fault)) => told(write_lexical_fault(sink, fault), Status::Faulty),
         Err(ReadFault::Syntax(place)) => told(write_syntax_fault(sink, place), Status::Faulty),
+        Err(ReadFault::TooDeep(place)) => told(write_depth_fault(sink, place), Status::Faulty),
         Err(ReadFault::Memory) => Ok(Status::NoMemory),
     }
 }

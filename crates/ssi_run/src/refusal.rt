@@ -20,7 +20,7 @@ impl From<Stop> for Refusal {
 
     fn from(stop: Stop) -> Refusal {
         match stop {
-            Stop::Syntax => Refusal::Later,
+            Stop::Syntax | Stop::TooDeep => Refusal::Later,
             Stop::Memory => Refusal::Memory,
         }
     }

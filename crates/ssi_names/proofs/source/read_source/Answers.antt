@@ -1,5 +1,7 @@
+use Rattle.ssi_lexer.proofs.Findings.{deep_finds}
+use Rattle.ssi_terms.specs.Grammar.{deepest}
 use Rattle.ssi_terms.proofs.Endings.{told}
-use Rattle.ssi_names.proofs.SourceFiles.{good_source, source_follows}
+use Rattle.ssi_names.proofs.SourceFiles.{sources, source_follows}
 use Rattle.ssi_names.proofs.source.read_source.Goals as goal
 
 pub returns : goal.returns
@@ -7,11 +9,13 @@ returns c =
     let old = c.args.tokens.now in
     let read = c.source_files-read in
     let new = read.new.tokens in
-    let clauses = told _ _ _ _ _ good_source _ source_follows old.left old.end read.result new.left new.end c.file_ended.result read.ensures.reads read.ensures.goes_on.end c.file_ended.ensures in
+    let finds = deep_finds _ _ _ _ _ sources _ source_follows deepest in
+    let clauses = told _ _ _ _ _ finds old.left old.end read.result new.left new.end c.file_ended.result read.ensures.reads read.ensures.goes_on.end c.file_ended.ensures in
     record {
       found = clauses.found;
       only = clauses.only;
       syntax = clauses.syntax;
+      too_deep = clauses.too_deep;
       lexical = clauses.lexical;
       goes_on = read.ensures.goes_on;
     }

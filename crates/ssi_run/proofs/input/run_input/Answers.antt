@@ -1,8 +1,8 @@
 use Rattle.std.proofs.Common.{[], ap, subst, Err, refl}
 use Rattle.ssi_lexer.specs.declared.token.TextEnd.{TextEnd}
 use Rattle.ssi_run.specs.declared.status.Status.TheVariants.{Faulty}
-use Rattle.ssi_run.specs.Answers.{TreeAnswers, InputAnswers, a_tree, no_token, no_spelling, faulty}
-use Rattle.ssi_run.specs.FaultLines.{lexical_line, syntax_line}
+use Rattle.ssi_run.specs.Answers.{TreeAnswers, InputAnswers, a_tree, no_token, no_spelling, too_deep, faulty}
+use Rattle.ssi_run.specs.FaultLines.{lexical_line, syntax_line, depth_line}
 use Rattle.ssi_run.proofs.Replying.{mapped, replies}
 use Rattle.ssi_run.proofs.input.run_input.Goals as goal
 
@@ -33,3 +33,10 @@ returns-in-Err-Syntax-clause-answered g c = λ told.
     let written = rw c.in-Err-Syntax.place-is at c.write_syntax_fault.ensures in
     rw c.told-in-Err-Syntax.ensures (replies (InputAnswers c.args.input.now) (faulty (syntax_line c.in-Err-Syntax.place))
     (record { lexemes = _; end = _; tokens = c.new-tokens.ensures.tokens; answered = no_spelling c.in-Err-Syntax.place fault }) Faulty refl c.write_syntax_fault.result written)
+
+pub returns-in-Err-TooDeep-clause-answered : goal.returns-in-Err-TooDeep-clause-answered
+returns-in-Err-TooDeep-clause-answered g c = λ told.
+    let fault = c.in-Err-TooDeep.ensures.too_deep c.in-Err-TooDeep.place (ap Err c.in-Err-TooDeep.field-0-is) in
+    let written = rw c.in-Err-TooDeep.place-is at c.write_depth_fault.ensures in
+    rw c.told-in-Err-TooDeep.ensures (replies (InputAnswers c.args.input.now) (faulty (depth_line c.in-Err-TooDeep.place))
+    (record { lexemes = _; end = _; tokens = c.new-tokens.ensures.tokens; answered = too_deep c.in-Err-TooDeep.place fault }) Faulty refl c.write_depth_fault.result written)
