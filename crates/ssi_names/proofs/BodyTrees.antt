@@ -10,7 +10,7 @@ use Rattle.ssi_terms.specs.declared.tree.PartTree.TheVariants.{Do, If, rolls-Do,
 use Rattle.ssi_terms.specs.declared.tree.PartTree.TheFolds.{fold-roll-PartTree, fold-roll-BodyTree, ind-BodyTree, map-PartTree, map-BodyTree}
 use Rattle.ssi_terms.specs.declared.tree.PartTree.TheViews.{roll-PartTree, roll-BodyTree}
 use Rattle.ssi_terms.specs.declared.tree.BodyTree.{BodyTree, fold-BodyTree}
-use Rattle.ssi_names.proofs.CondTrees.{With, each_of}
+use Rattle.ssi_identities.proofs.Conditions.{With, each_of}
 
 -- a fold of a body folds its items
 pub tree_body_is : (A B : Type 0) (f : PartTree-F A B → A) (g : BodyTree-F A B → B) (items : List PartTree) → fold-BodyTree A B f g (record { parts = items }) ≡ g (record { parts = map (fold-PartTree A B f g) items })

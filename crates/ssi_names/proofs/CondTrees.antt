@@ -1,6 +1,7 @@
 -- Trees of conditions one layer at a time: what a fold gives of each item and of a condition, and induction.
 use Rattle.std.proofs.Common.{◌≡◌, ap, subst, sym, ◌∙◌, List, [], ◌∷◌, map}
 use Rattle.std.specs.List.{AllByRecursion}
+use Rattle.ssi_identities.proofs.Conditions.{With, each_of}
 use Rattle.ssi_terms.specs.declared.tree.Spot.{Spot}
 use Rattle.ssi_terms.specs.declared.tree.ItemTree.{ItemTree, fold-ItemTree}
 use Rattle.ssi_terms.specs.declared.tree.ItemTree.TheOpen.{ItemTree-F, CondTree-F}
@@ -24,15 +25,6 @@ tree_bit_is A B f g number word = ap (fold-ItemTree A B f g) (sym (rolls-Bit num
 -- a fold of a group folds its alternatives
 pub tree_any_is : (A B : Type 0) (f : ItemTree-F A B → A) (g : CondTree-F A B → B) (conds : List CondTree) → fold-ItemTree A B f g (Any conds) ≡ f (ItemTree-F.Any (map (fold-CondTree A B f g) conds))
 tree_any_is A B f g conds = ap (fold-ItemTree A B f g) (sym (rolls-Any conds)) ∙ fold-roll-ItemTree A B f g (ItemTree-F.Any conds)
-
--- a value with what is shown of it
-abbrev pub With : {X : Type 0} → (X → Type 0) → Type 0
-With {X} P = (x : X) × P x
-
--- what is shown of each of some values
-pub each_of : {X : Type 0} (P : X → Type 0) (es : List (With P)) → AllByRecursion P (map (λ e. e.0) es)
-each_of P [] = tt
-each_of P (e ∷ es) = (e.1, each_of P es)
 
 -- what holds of every test, of a group where it holds of its alternatives, and of a condition where it holds of its items, holds of every condition
 module _ (P : ItemTree → Type 0) (Q : CondTree → Type 0)

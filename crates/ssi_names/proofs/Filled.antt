@@ -2,8 +2,7 @@
 use Rattle.std.proofs.Common.{◌≡◌, ℕ, zero, suc, ◌&&◌, Bool, true, false, codes, List, [], ◌∷◌, map, Option, Some, None, refl, ap, sym, ◌∙◌}
 use Rattle.std.specs.List.{AllByRecursion, list_all}
 use Rattle.std.specs.Option.{option_map}
-use Rattle.ssi_identities.specs.declared.fact.Counts.{Counts}
-use Rattle.ssi_identities.specs.declared.fact.Kind.{Kind}
+use Rattle.ssi_identities.specs.declared.fact.FactKind.{FactKind}
 use Rattle.ssi_identities.specs.declared.rule.CondItem.{CondItem, fold-CondItem}
 use Rattle.ssi_identities.specs.declared.rule.Cond.{Cond}
 use Rattle.ssi_identities.specs.declared.rule.BodyItem.{BodyItem, fold-BodyItem}
@@ -127,7 +126,7 @@ rows_filled : {X Y : Type 0} (make : X → Y) (filled : Y → Bool) (was : X →
 rows_filled make filled was [] each = refl
 rows_filled make filled was (x ∷ xs) each = ap (λ b. b ∷ map filled (map make xs)) each.0 ∙ ap (λ bs. was x ∷ bs) (rows_filled make filled was xs each.1)
 
-module _ (text : List ℕ) (counts : Counts) (names : Kind → List (List ℕ)) where
+module _ (text : List ℕ) (facts : FactKind → List ℕ → ℕ) (numbers : List ℕ → ℕ) where
   abbrev row_item_filled : CondItem → Bool
   row_item_filled = fold-CondItem Bool Bool row.item_filled row.cond_filled
 
@@ -135,73 +134,73 @@ module _ (text : List ℕ) (counts : Counts) (names : Kind → List (List ℕ)) 
   row_part_filled = fold-BodyItem Bool Bool row.part_filled row.body_filled
 
   abbrev SameItem : ItemTree → Type 0
-  SameItem x = row_item_filled (r.item_row text counts names x) ≡ is_filled_item x
+  SameItem x = row_item_filled (r.item_row text facts numbers x) ≡ is_filled_item x
 
   abbrev SameCond : CondTree → Type 0
-  SameCond x = row.is_filled_cond (r.cond_row text counts names x) ≡ tree.is_filled_cond x
+  SameCond x = row.is_filled_cond (r.cond_row text facts numbers x) ≡ tree.is_filled_cond x
 
-  test_filled : (name : Spot) (said : ℕ × Bool) (lie : Option Bool) → row_item_filled (r.test_by text counts names name said lie) ≡ true
+  test_filled : (name : List ℕ) (said : ℕ × Bool) (lie : Option Bool) → row_item_filled (r.test_by text facts numbers name said lie) ≡ true
   test_filled name said None = lit_is Bool Bool row.item_filled row.cond_filled said.0 said.1
   test_filled name said (Some lie) = free_is Bool Bool row.item_filled row.cond_filled _ lie
 
   at_test : (name word : Spot) → SameItem (t.Test name word)
   at_test name word =
-      ap row_item_filled (tree_test_is CondItem Cond (r.item_step text counts names) (r.cond_step text counts names) name word)
-      ∙ test_filled name (r.fact_at text counts names name word) (lie_of_word (kind_of (characters text name)) (characters text word))
+      ap row_item_filled (tree_test_is CondItem Cond (r.item_step text facts numbers) (r.cond_step text facts numbers) name word)
+      ∙ test_filled (characters text name) (r.fact_at text facts numbers name word) (lie_of_word (kind_of (characters text name)) (characters text word))
       ∙ sym (tree_test_is Bool Bool tree.item_filled tree.cond_filled name word)
 
   at_bit : (number word : Spot) → SameItem (t.Bit number word)
   at_bit number word =
-      ap row_item_filled (tree_bit_is CondItem Cond (r.item_step text counts names) (r.cond_step text counts names) number word)
+      ap row_item_filled (tree_bit_is CondItem Cond (r.item_step text facts numbers) (r.cond_step text facts numbers) number word)
       ∙ lit_is Bool Bool row.item_filled row.cond_filled 0 false
       ∙ sym (tree_bit_is Bool Bool tree.item_filled tree.cond_filled number word)
 
   at_any : (conds : List CondTree) → AllByRecursion SameCond conds → SameItem (t.Any conds)
   at_any conds each =
-      ap row_item_filled (tree_any_is CondItem Cond (r.item_step text counts names) (r.cond_step text counts names) conds)
-      ∙ any_is Bool Bool row.item_filled row.cond_filled (map (r.cond_row text counts names) conds)
-      ∙ ap all_filled (rows_filled (r.cond_row text counts names) row.is_filled_cond tree.is_filled_cond conds each)
+      ap row_item_filled (tree_any_is CondItem Cond (r.item_step text facts numbers) (r.cond_step text facts numbers) conds)
+      ∙ any_is Bool Bool row.item_filled row.cond_filled (map (r.cond_row text facts numbers) conds)
+      ∙ ap all_filled (rows_filled (r.cond_row text facts numbers) row.is_filled_cond tree.is_filled_cond conds each)
       ∙ sym (tree_any_is Bool Bool tree.item_filled tree.cond_filled conds)
 
   at_items : (items : List ItemTree) → AllByRecursion SameItem items → SameCond (record { items = items })
   at_items items each =
-      ap row.is_filled_cond (tree_cond_is CondItem Cond (r.item_step text counts names) (r.cond_step text counts names) items)
-      ∙ cond_is Bool Bool row.item_filled row.cond_filled (map (r.item_row text counts names) items)
-      ∙ ap all_filled (rows_filled (r.item_row text counts names) row_item_filled is_filled_item items each)
+      ap row.is_filled_cond (tree_cond_is CondItem Cond (r.item_step text facts numbers) (r.cond_step text facts numbers) items)
+      ∙ cond_is Bool Bool row.item_filled row.cond_filled (map (r.item_row text facts numbers) items)
+      ∙ ap all_filled (rows_filled (r.item_row text facts numbers) row_item_filled is_filled_item items each)
       ∙ sym (tree_cond_is Bool Bool tree.item_filled tree.cond_filled items)
 
   same_cond : (x : CondTree) → SameCond x
   same_cond = tree_cond_induction SameItem SameCond at_test at_bit at_any at_items
 
   abbrev SamePart : PartTree → Type 0
-  SamePart x = row_part_filled (r.part_row text counts names x) ≡ is_filled_part x
+  SamePart x = row_part_filled (r.part_row text facts numbers x) ≡ is_filled_part x
 
   abbrev SameBody : BodyTree → Type 0
-  SameBody x = row.is_filled (r.body_row text counts names x) ≡ tree.is_filled x
+  SameBody x = row.is_filled (r.body_row text facts numbers x) ≡ tree.is_filled x
 
   at_do : (command : CommandTree) → SamePart (p.Do command)
   at_do command =
-      ap row_part_filled (tree_do_is BodyItem Body (r.part_step text counts names) (r.body_step text counts names) command)
-      ∙ do_is Bool Bool row.part_filled row.body_filled (r.command_row text counts names command)
+      ap row_part_filled (tree_do_is BodyItem Body (r.part_step text facts numbers) (r.body_step text facts numbers) command)
+      ∙ do_is Bool Bool row.part_filled row.body_filled (r.command_row text facts numbers command)
       ∙ sym (tree_do_is Bool Bool tree.part_filled tree.body_filled command)
 
   -- a choice with the same guard, and with branches that are filled alike
   if_same : (guard : CondTree) (body : BodyTree) (other : Option BodyTree) → SameBody body
-      → else_filled (option_map row.is_filled (option_map (r.body_row text counts names) other)) ≡ else_filled (option_map tree.is_filled other) → SamePart (p.If guard body other)
+      → else_filled (option_map row.is_filled (option_map (r.body_row text facts numbers) other)) ≡ else_filled (option_map tree.is_filled other) → SamePart (p.If guard body other)
   if_same guard body other same others =
-      let rest = option_map (r.body_row text counts names) other in
-      ap row_part_filled (tree_if_is BodyItem Body (r.part_step text counts names) (r.body_step text counts names) guard body other)
-      ∙ if_is Bool Bool row.part_filled row.body_filled (r.cond_row text counts names guard) (r.body_row text counts names body) rest
-      ∙ ap (λ b. b && (row.is_filled (r.body_row text counts names body) && else_filled (option_map row.is_filled rest))) (same_cond guard)
+      let rest = option_map (r.body_row text facts numbers) other in
+      ap row_part_filled (tree_if_is BodyItem Body (r.part_step text facts numbers) (r.body_step text facts numbers) guard body other)
+      ∙ if_is Bool Bool row.part_filled row.body_filled (r.cond_row text facts numbers guard) (r.body_row text facts numbers body) rest
+      ∙ ap (λ b. b && (row.is_filled (r.body_row text facts numbers body) && else_filled (option_map row.is_filled rest))) (same_cond guard)
       ∙ ap (λ b. tree.is_filled_cond guard && (b && else_filled (option_map row.is_filled rest))) same
       ∙ ap (λ b. tree.is_filled_cond guard && (tree.is_filled body && b)) others
       ∙ sym (tree_if_is Bool Bool tree.part_filled tree.body_filled guard body other)
 
   at_parts : (parts : List PartTree) → AllByRecursion SamePart parts → SameBody (record { parts = parts })
   at_parts parts each =
-      ap row.is_filled (tree_body_is BodyItem Body (r.part_step text counts names) (r.body_step text counts names) parts)
-      ∙ body_is Bool Bool row.part_filled row.body_filled (map (r.part_row text counts names) parts)
-      ∙ ap all_filled (rows_filled (r.part_row text counts names) row_part_filled is_filled_part parts each)
+      ap row.is_filled (tree_body_is BodyItem Body (r.part_step text facts numbers) (r.body_step text facts numbers) parts)
+      ∙ body_is Bool Bool row.part_filled row.body_filled (map (r.part_row text facts numbers) parts)
+      ∙ ap all_filled (rows_filled (r.part_row text facts numbers) row_part_filled is_filled_part parts each)
       ∙ sym (tree_body_is Bool Bool tree.part_filled tree.body_filled parts)
 
   -- the row of a body is filled where its tree is

@@ -15,6 +15,7 @@ use Rattle.ssi_terms.specs.Trees.{PointsText, RouteText, SubText}
 use Rattle.ssi_names.specs.SourceTexts.{SourceText}
 use Rattle.ssi_names.specs.Codes.{twice, block_twice, too_many, not_wired}
 use Rattle.ssi_names.specs.declared.fault.Fault.{Fault}
+use Rattle.ssi_names.specs.declared.rule_file.RuleFile.TheVariants.{Requests}
 use Rattle.ssi_names.specs.declared.tables.Tables.{Tables}
 use Rattle.ssi_names.specs.Declarations.{declared, is_declared_in, is_wired_in, no_rules}
 use Rattle.ssi_names.specs.Faults as f
@@ -166,7 +167,7 @@ new_routes text known wired tree fine =
     let name = f.name_faults text (λ (e : RouteText). e.name) 512 earlier x in
     let signal = f.reference_faults text (known Signal) x.signal in
     name_fits text (λ (e : RouteText). e.name) 512 earlier x
-    (no_front name signal (no_front (name ++ signal) (in_order (f.member_faults text (known Subroute) 32) [] x.subs) none))) tree.identities.routes fine.routes
+    (no_front name (signal ++ in_order (f.member_faults text (known Subroute) 32) [] x.subs) none)) tree.identities.routes fine.routes
 
 -- those of sub-routes
 new_subs : (text : List ℕ) (known : Kind → List ℕ → Bool) (wired : List ℕ → Bool) (tree : SourceText) → NoFaults text known wired tree → AreNew (declared text tree Subroute) 1024
@@ -176,7 +177,7 @@ new_subs text known wired tree fine =
     let name = f.name_faults text (λ (e : SubText). e.name) 1024 earlier x in
     let track = f.reference_faults text (known Track) x.track in
     name_fits text (λ (e : SubText). e.name) 1024 earlier x
-    (no_front name track (no_front (name ++ track) (in_order (f.lie_faults text (known Points)) [] x.lies) none))) tree.identities.subs fine.subs
+    (no_front name (track ++ in_order (f.lie_faults text (known Points)) [] x.lies) none)) tree.identities.subs fine.subs
 
 -- those of requests
 new_requests : (text : List ℕ) (known : Kind → List ℕ → Bool) (wired : List ℕ → Bool) (tree : SourceText) → NoFaults text known wired tree → AreNew (declared text tree Request) 1024
@@ -184,7 +185,7 @@ new_requests text known wired tree fine =
     new_names (λ (e : Spot × BodyTree). characters text e.0) 1024 (f.request_faults text known no_rules)
     (λ earlier x none.
     declares x.0 (is_among (characters text x.0) (map (λ e. characters text e.0) earlier)) block_twice 1024 (length earlier) []
-    (no_front (f.request_name_faults text earlier x.0) (body_faults text known no_rules x.1) none)) tree.requests fine.requests
+    (no_front (f.request_name_faults text earlier x.0) (body_faults text known no_rules Requests x.1) none)) tree.requests fine.requests
 
 -- the limit of a kind
 abbrev pub limit_of : Kind → ℕ

@@ -17,5 +17,6 @@ pub mod Filled
 pub mod WellBodies
 pub mod WellModules
 pub mod NamePlaces
+pub mod Numbered
 pub mod PinNames
 pub mod WiredOnce

@@ -95,15 +95,15 @@ module_is text known earlier entry kind count seen used pins old middle new was 
     ∙ append_assoc old _ _
 
 -- the names at the pins of one more entry
-pub pins_more : (text : List ℕ) (entries : List ModuleText) (i : ℕ) (entry : ModuleText) (pins : List (Spot × Spot)) (now new : List (List ℕ)) → i < length entries → entry ≡ get_or entries i entry
-    → pins ≡ entry.pins → now ≡ set_of (names_at text (pins_of (take i entries))) → new ≡ fold with_name now (names_at text pins)
-    → new ≡ set_of (names_at text (pins_of (take (i + 1) entries)))
-pins_more text entries i entry pins now new within is pins_are was added =
+pub pins_more : (text : List ℕ) (entries : List ModuleText) (i : ℕ) (entry : ModuleText) (pins : List (Spot × Spot)) (before now new : List (List ℕ)) → i < length entries → entry ≡ get_or entries i entry
+    → pins ≡ entry.pins → now ≡ fold with_name before (names_at text (pins_of (take i entries))) → new ≡ fold with_name now (names_at text pins)
+    → new ≡ fold with_name before (names_at text (pins_of (take (i + 1) entries)))
+pins_more text entries i entry pins before now new within is pins_are was added =
     let name = λ (pin : Spot × Spot). characters text pin.0 in
     let more : pins_of (take (i + 1) entries) ≡ pins_of (take i entries) ++ entry.pins =
     ap pins_of (take_more entries i entry within ∙ ap (λ e. take i entries ++ e ∷ []) (sym is)) ∙ flat_map-append (λ e. e.pins) (take i entries) (entry ∷ [])
     ∙ ap (λ ps. pins_of (take i entries) ++ ps) (append-nil entry.pins)
     in
     added ∙ ap (λ ps. fold with_name now (map name ps)) pins_are ∙ ap (λ names. fold with_name names (map name entry.pins)) was
-    ∙ sym (ap (λ ps. set_of (map name ps)) more ∙ ap set_of (map-append name (pins_of (take i entries)) entry.pins)
-    ∙ fold-append with_name [] (map name (pins_of (take i entries))) (map name entry.pins))
+    ∙ sym (ap (λ ps. fold with_name before (map name ps)) more ∙ ap (fold with_name before) (map-append name (pins_of (take i entries)) entry.pins)
+    ∙ fold-append with_name before (map name (pins_of (take i entries))) (map name entry.pins))

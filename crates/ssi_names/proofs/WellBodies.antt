@@ -37,11 +37,12 @@ use Rattle.ssi_names.specs.declared.fault.Fault.{Fault}
 use Rattle.ssi_names.specs.Declarations.{no_rules}
 use Rattle.ssi_names.specs.NameLists.{is_among}
 use Rattle.ssi_names.specs.Occurrences.{joined}
-use Rattle.ssi_names.specs.Rows.{counts_by}
+use Rattle.ssi_names.specs.declared.rule_file.RuleFile.TheVariants.{Requests}
+use Rattle.ssi_names.specs.Rows.{counts_by, number_at, fact_by_name, number_by_name}
 use Rattle.ssi_names.specs.Texts.{characters}
 use Rattle.ssi_names.specs.Uses.{flat, item_facts, cond_facts, facts_of_item, facts_tested, part_facts, body_facts, facts_of_part, facts_of_guards, part_commands, body_commands, commands_of_part, commands_of}
 use Rattle.ssi_names.specs.Well.{IsRequestFact}
-use Rattle.ssi_names.specs.Words.{kind_of, facts_of_kind, said_by, fact_of_word, lie_of_word, is_test, may_request}
+use Rattle.ssi_names.specs.Words.{kind_of, facts_of_kind, said_by, fact_of_word, lie_of_word, is_test, may_command}
 use Rattle.ssi_names.proofs.BodyTrees.{tree_body_is, tree_do_is, tree_if_is, tree_body_induction}
 use Rattle.ssi_names.proofs.CondTrees.{tree_cond_is, tree_test_is, tree_bit_is, tree_any_is, tree_cond_induction}
 use Rattle.ssi_names.proofs.Distinct.{place_below}
@@ -50,7 +51,7 @@ use Rattle.ssi_names.proofs.Fine.{no_front, no_back, first_fine}
 -- ---- facts by words
 
 -- the facts of a kind are of identities of the kind
-own_facts : (kind : Kind) → AllByRecursion (λ fact. identity_of fact ≡ kind) (facts_of_kind kind)
+pub own_facts : (kind : Kind) → AllByRecursion (λ fact. identity_of fact ≡ kind) (facts_of_kind kind)
 own_facts kind = elim kind as (λ k. AllByRecursion (λ fact. identity_of fact ≡ k) (facts_of_kind k)) [
   | Points ↦ (refl, (refl, (refl, tt)))
   | Signal ↦ (refl, tt)
@@ -69,7 +70,7 @@ said_is_by kind fact facts word said false true own rest e = let same : fact ≡
 said_is_by kind fact facts word said false false own rest e = rest e
 
 -- what a word says is a fact of an identity of the kind
-said_of_kind : (kind : Kind) (facts : List FactKind) (word : List ℕ) (said : FactKind × Bool) → AllByRecursion (λ fact. identity_of fact ≡ kind) facts → said_by facts word ≡ Some said
+pub said_of_kind : (kind : Kind) (facts : List FactKind) (word : List ℕ) (said : FactKind × Bool) → AllByRecursion (λ fact. identity_of fact ≡ kind) facts → said_by facts word ≡ Some said
     → identity_of said.0 ≡ kind
 said_of_kind kind [] word said own e = absurd cc
 said_of_kind kind (fact ∷ facts) word said own e = said_is_by kind fact facts word said _ _ own.0 (said_of_kind kind facts word said own.1) e
@@ -147,14 +148,22 @@ module _ (text : List ℕ) (names : Kind → List (List ℕ)) where
   abbrev counts : Counts
   counts = counts_by names
 
+  -- the number of a fact of the identity with a name, and the number of a name
+  abbrev facts : FactKind → List ℕ → ℕ
+  facts = fact_by_name counts names
+
+  abbrev numbers : List ℕ → ℕ
+  numbers = number_by_name names
+
   -- a declared name and a word that says a fact: the fact is one of the identity's
-  fact_is : (kind : Kind) (name word : List ℕ) (said : FactKind × Bool) → known kind name ≡ true → fact_of_word kind word ≡ Some said
-      → (index : ℕ) × (index < count_of counts said.0) × (r.fact_by text counts names (names kind) name (Some said) ≡ (fact_number_of counts said.0 index, said.1))
-  fact_is kind name word said found is =
+  fact_is : (name word : List ℕ) (said : FactKind × Bool) → known (kind_of name) name ≡ true → fact_of_word (kind_of name) word ≡ Some said
+      → (index : ℕ) × (index < count_of counts said.0) × (facts said.0 name ≡ fact_number_of counts said.0 index)
+  fact_is name word said found is =
+      let kind = kind_of name in
       let same = said_of_kind kind (facts_of_kind kind) word said (own_facts kind) is in
       let long : count_of counts said.0 ≡ length (names kind) = counted names said.0 ∙ ap (λ k. length (names k)) same in
       let place = position_or_len (bytes_eq name) (names kind) in
-      (place, omega (arith, place_below (names kind) name found, long), ap (λ n. (r.number_at text counts names said.0 n, said.1)) (place_is (names kind) name found))
+      (place, omega (arith, place_below (names kind) name found, long), ap (number_at counts said.0) (place_is (names kind) name found))
 
   -- a fact that there is
   abbrev IsFact : ℕ → Type 0
@@ -165,92 +174,92 @@ module _ (text : List ℕ) (names : Kind → List (List ℕ)) where
   IsRequestCommand command = IsRequestFact counts command.fact
 
   -- a name without a fault is declared
-  use_known : (name : Spot) → f.use_faults text known no_rules name ≡ [] → known (kind_of (characters text name)) (characters text name) ≡ true
+  use_known : (name : Spot) → f.use_faults text known no_rules Requests name ≡ [] → known (kind_of (characters text name)) (characters text name) ≡ true
   use_known name none =
       let test = known (kind_of (characters text name)) (characters text name) in
       not_true test (first_fine name (not test) unknown [] none).0
 
   -- a test without faults tests a fact that there is
-  test_well : (name word : Spot) → f.use_faults text known no_rules name ++ f.test_word_faults text known no_rules (characters text name) word ≡ []
-      → All IsFact (facts_of_item (r.test_row text counts names name word))
+  test_well : (name word : Spot) → f.use_faults text known no_rules Requests name ++ f.test_word_faults text known no_rules Requests (characters text name) word ≡ []
+      → All IsFact (facts_of_item (r.test_row text facts numbers name word))
   test_well name word none =
       let called = characters text name in
       let kind = kind_of called in
       let said = characters text word in
-      let before = f.use_faults text known no_rules name in
-      let behind = f.test_word_faults text known no_rules called word in
+      let before = f.use_faults text known no_rules Requests name in
+      let behind = f.test_word_faults text known no_rules Requests called word in
       let found = use_known name (no_front before behind none) in
       let unruled = known kind called && f.lacks_rule (no_rules called) (lie_of_word kind said) in
       let first = first_fine word (not (is_test kind said)) wrong_word ((unruled, no_pfm) ∷ []) (no_back before behind none) in
       let second = first_fine word unruled no_pfm [] first.1 in
       let lie : lie_of_word kind said ≡ None = no_lie called (known kind called) (lie_of_word kind said) found second.0 in
       let some = is_by (is_some (lie_of_word kind said)) (fact_of_word kind said) (ap is_some lie) (not_true (is_test kind said) first.0) in
-      let fact = fact_is kind called said some.0 found some.1 in
+      let fact = fact_is called said some.0 found some.1 in
       let number = fact_number_of counts some.0.0 fact.0 in
-      let row : r.test_row text counts names name word ≡ item.Lit number some.0.1 =
-      ap (λ l. r.test_by text counts names name (r.fact_at text counts names name word) l) lie
-      ∙ ap (λ s. item.Lit (r.fact_by text counts names (names kind) called s).0 (r.fact_by text counts names (names kind) called s).1) some.1
-      ∙ ap (λ (x : ℕ × Bool). item.Lit x.0 x.1) fact.2
+      let row : r.test_row text facts numbers name word ≡ item.Lit number some.0.1 =
+      ap (λ l. r.test_by text facts numbers called (r.fact_at text facts numbers name word) l) lie
+      ∙ ap (λ s. item.Lit (r.said_of text facts numbers called s).0 (r.said_of text facts numbers called s).1) some.1
+      ∙ ap (λ n. item.Lit n some.0.1) fact.2
       in
       subst (λ i. All IsFact (facts_of_item i)) (sym row)
       (subst (All IsFact) (sym (lit_is (List ℕ) (List ℕ) item_facts cond_facts number some.0.1))
       (All-cons IsFact number [] (fact_below counts some.0.0 fact.0 fact.1) (All-nil IsFact)))
 
   -- a command without faults commands a fact that requests may command
-  command_well : (command : CommandTree) → f.command_faults text known no_rules command ≡ [] → IsRequestCommand (r.command_row text counts names command)
+  command_well : (command : CommandTree) → f.command_faults text known no_rules Requests command ≡ [] → IsRequestCommand (r.command_row text facts numbers command)
   command_well command none =
       let called = characters text command.name in
       let kind = kind_of called in
       let said = characters text command.word in
-      let before = f.use_faults text known no_rules command.name in
-      let behind = f.command_word_faults text known no_rules called command.word in
+      let before = f.use_faults text known no_rules Requests command.name in
+      let behind = f.command_word_faults text known no_rules Requests called command.word in
       let found = use_known command.name (no_front before behind none) in
-      let elsewhere = not (may_request (fact_of_word kind said)) in
+      let elsewhere = not (may_command Requests (fact_of_word kind said)) in
       let first = first_fine command.word (not (is_some (fact_of_word kind said))) wrong_word ((elsewhere, not_in_this_file) ∷ []) (no_back before behind none) in
       let second = first_fine command.word elsewhere not_in_this_file [] first.1 in
       let some = some_said (fact_of_word kind said) (not_true (is_some (fact_of_word kind said)) first.0) in
-      let fact = fact_is kind called said some.0 found some.1 in
+      let fact = fact_is called said some.0 found some.1 in
       record {
         kind = some.0.0;
         index = fact.0;
-        allowed = ap may_request (sym some.1) ∙ not_true (may_request (fact_of_word kind said)) second.0;
+        allowed = ap (may_command Requests) (sym some.1) ∙ not_true (may_command Requests (fact_of_word kind said)) second.0;
         within = fact.1;
-        is = ap (λ s. (r.fact_by text counts names (names kind) called s).0) some.1 ∙ ap (λ (x : ℕ × Bool). x.0) fact.2;
+        is = ap (λ s. (r.said_of text facts numbers called s).0) some.1 ∙ fact.2;
       }
 
   -- ---- conditions
 
   abbrev ItemWell : ItemTree → Type 0
-  ItemWell tree = f.item_faults text known no_rules tree ≡ [] → All IsFact (facts_of_item (r.item_row text counts names tree))
+  ItemWell tree = f.item_faults text known no_rules Requests tree ≡ [] → All IsFact (facts_of_item (r.item_row text facts numbers tree))
 
   abbrev CondWell : CondTree → Type 0
-  CondWell tree = f.cond_faults text known no_rules tree ≡ [] → All IsFact (facts_tested (r.cond_row text counts names tree))
+  CondWell tree = f.cond_faults text known no_rules Requests tree ≡ [] → All IsFact (facts_tested (r.cond_row text facts numbers tree))
 
   at_test : (name word : Spot) → ItemWell (t.Test name word)
   at_test name word none =
-      subst (λ i. All IsFact (facts_of_item i)) (sym (tree_test_is CondItem Cond (r.item_step text counts names) (r.cond_step text counts names) name word))
-      (test_well name word (sym (tree_test_is (List Fault) (List Fault) (f.item_step text known no_rules) (f.cond_step text known no_rules) name word) ∙ none))
+      subst (λ i. All IsFact (facts_of_item i)) (sym (tree_test_is CondItem Cond (r.item_step text facts numbers) (r.cond_step text facts numbers) name word))
+      (test_well name word (sym (tree_test_is (List Fault) (List Fault) (f.item_step text known no_rules Requests) (f.cond_step text known no_rules Requests) name word) ∙ none))
 
   at_bit : (number word : Spot) → ItemWell (t.Bit number word)
   at_bit number word none =
-      let one = sym (tree_bit_is (List Fault) (List Fault) (f.item_step text known no_rules) (f.cond_step text known no_rules) number word) ∙ none in
+      let one = sym (tree_bit_is (List Fault) (List Fault) (f.item_step text known no_rules Requests) (f.cond_step text known no_rules Requests) number word) ∙ none in
       absurd cc
 
   at_any : (conds : List CondTree) → AllByRecursion CondWell conds → ItemWell (t.Any conds)
   at_any conds each none =
-      let rows = map (r.cond_row text counts names) conds in
-      subst (λ i. All IsFact (facts_of_item i)) (sym (tree_any_is CondItem Cond (r.item_step text counts names) (r.cond_step text counts names) conds))
+      let rows = map (r.cond_row text facts numbers) conds in
+      subst (λ i. All IsFact (facts_of_item i)) (sym (tree_any_is CondItem Cond (r.item_step text facts numbers) (r.cond_step text facts numbers) conds))
       (subst (All IsFact) (sym (any_is (List ℕ) (List ℕ) item_facts cond_facts rows))
-      (parts_well IsFact (f.cond_faults text known no_rules) (r.cond_row text counts names) facts_tested conds each
-      (sym (tree_any_is (List Fault) (List Fault) (f.item_step text known no_rules) (f.cond_step text known no_rules) conds) ∙ none)))
+      (parts_well IsFact (f.cond_faults text known no_rules Requests) (r.cond_row text facts numbers) facts_tested conds each
+      (sym (tree_any_is (List Fault) (List Fault) (f.item_step text known no_rules Requests) (f.cond_step text known no_rules Requests) conds) ∙ none)))
 
   at_items : (items : List ItemTree) → AllByRecursion ItemWell items → CondWell (record { items = items })
   at_items items each none =
-      let rows = map (r.item_row text counts names) items in
-      subst (λ c. All IsFact (facts_tested c)) (sym (tree_cond_is CondItem Cond (r.item_step text counts names) (r.cond_step text counts names) items))
+      let rows = map (r.item_row text facts numbers) items in
+      subst (λ c. All IsFact (facts_tested c)) (sym (tree_cond_is CondItem Cond (r.item_step text facts numbers) (r.cond_step text facts numbers) items))
       (subst (All IsFact) (sym (cond_is (List ℕ) (List ℕ) item_facts cond_facts rows))
-      (parts_well IsFact (f.item_faults text known no_rules) (r.item_row text counts names) facts_of_item items each
-      (sym (tree_cond_is (List Fault) (List Fault) (f.item_step text known no_rules) (f.cond_step text known no_rules) items) ∙ none)))
+      (parts_well IsFact (f.item_faults text known no_rules Requests) (r.item_row text facts numbers) facts_of_item items each
+      (sym (tree_cond_is (List Fault) (List Fault) (f.item_step text known no_rules Requests) (f.cond_step text known no_rules Requests) items) ∙ none)))
 
   -- a condition without faults tests facts that there are
   cond_well : (tree : CondTree) → CondWell tree
@@ -260,69 +269,69 @@ module _ (text : List ℕ) (names : Kind → List (List ℕ)) where
 
   -- what holds of a part of a body, and of a body: it tests facts that there are, and it commands facts that requests may command
   abbrev TestsPart : PartTree → Type 0
-  TestsPart tree = f.part_faults text known no_rules tree ≡ [] → All IsFact (facts_of_part (r.part_row text counts names tree))
+  TestsPart tree = f.part_faults text known no_rules Requests tree ≡ [] → All IsFact (facts_of_part (r.part_row text facts numbers tree))
 
   abbrev TestsBody : BodyTree → Type 0
-  TestsBody tree = f.body_faults text known no_rules tree ≡ [] → All IsFact (facts_of_guards (r.body_row text counts names tree))
+  TestsBody tree = f.body_faults text known no_rules Requests tree ≡ [] → All IsFact (facts_of_guards (r.body_row text facts numbers tree))
 
   abbrev CommandsPart : PartTree → Type 0
-  CommandsPart tree = f.part_faults text known no_rules tree ≡ [] → All IsRequestCommand (commands_of_part (r.part_row text counts names tree))
+  CommandsPart tree = f.part_faults text known no_rules Requests tree ≡ [] → All IsRequestCommand (commands_of_part (r.part_row text facts numbers tree))
 
   abbrev CommandsBody : BodyTree → Type 0
-  CommandsBody tree = f.body_faults text known no_rules tree ≡ [] → All IsRequestCommand (commands_of (r.body_row text counts names tree))
+  CommandsBody tree = f.body_faults text known no_rules Requests tree ≡ [] → All IsRequestCommand (commands_of (r.body_row text facts numbers tree))
 
   -- the row and the faults of a command, of a choice and of a body
-  do_row : (command : CommandTree) → r.part_row text counts names (p.Do command) ≡ part.Do (r.command_row text counts names command)
-  do_row command = tree_do_is BodyItem Body (r.part_step text counts names) (r.body_step text counts names) command
+  do_row : (command : CommandTree) → r.part_row text facts numbers (p.Do command) ≡ part.Do (r.command_row text facts numbers command)
+  do_row command = tree_do_is BodyItem Body (r.part_step text facts numbers) (r.body_step text facts numbers) command
 
-  if_row : (guard : CondTree) (body : BodyTree) (other : Option BodyTree) → r.part_row text counts names (p.If guard body other)
-      ≡ part.If (r.cond_row text counts names guard) (r.body_row text counts names body) (option_map (r.body_row text counts names) other)
-  if_row guard body other = tree_if_is BodyItem Body (r.part_step text counts names) (r.body_step text counts names) guard body other
+  if_row : (guard : CondTree) (body : BodyTree) (other : Option BodyTree) → r.part_row text facts numbers (p.If guard body other)
+      ≡ part.If (r.cond_row text facts numbers guard) (r.body_row text facts numbers body) (option_map (r.body_row text facts numbers) other)
+  if_row guard body other = tree_if_is BodyItem Body (r.part_step text facts numbers) (r.body_step text facts numbers) guard body other
 
-  if_faults : (guard : CondTree) (body : BodyTree) (other : Option BodyTree) → f.part_faults text known no_rules (p.If guard body other) ≡ []
-      → f.cond_faults text known no_rules guard ++ f.body_faults text known no_rules body ++ f.else_faults (option_map (f.body_faults text known no_rules) other) ≡ []
-  if_faults guard body other none = sym (tree_if_is (List Fault) (List Fault) (f.part_step text known no_rules) (f.body_step text known no_rules) guard body other) ∙ none
+  if_faults : (guard : CondTree) (body : BodyTree) (other : Option BodyTree) → f.part_faults text known no_rules Requests (p.If guard body other) ≡ []
+      → f.cond_faults text known no_rules Requests guard ++ f.body_faults text known no_rules Requests body ++ f.else_faults (option_map (f.body_faults text known no_rules Requests) other) ≡ []
+  if_faults guard body other none = sym (tree_if_is (List Fault) (List Fault) (f.part_step text known no_rules Requests) (f.body_step text known no_rules Requests) guard body other) ∙ none
 
-  body_faults_are : (parts : List PartTree) → f.body_faults text known no_rules (record { parts = parts }) ≡ [] → joined (map (f.part_faults text known no_rules) parts) ≡ []
-  body_faults_are parts none = sym (tree_body_is (List Fault) (List Fault) (f.part_step text known no_rules) (f.body_step text known no_rules) parts) ∙ none
+  body_faults_are : (parts : List PartTree) → f.body_faults text known no_rules Requests (record { parts = parts }) ≡ [] → joined (map (f.part_faults text known no_rules Requests) parts) ≡ []
+  body_faults_are parts none = sym (tree_body_is (List Fault) (List Fault) (f.part_step text known no_rules Requests) (f.body_step text known no_rules Requests) parts) ∙ none
 
-  body_row_is : (parts : List PartTree) → r.body_row text counts names (record { parts = parts }) ≡ record { items = map (r.part_row text counts names) parts }
-  body_row_is parts = tree_body_is BodyItem Body (r.part_step text counts names) (r.body_step text counts names) parts
+  body_row_is : (parts : List PartTree) → r.body_row text facts numbers (record { parts = parts }) ≡ record { items = map (r.part_row text facts numbers) parts }
+  body_row_is parts = tree_body_is BodyItem Body (r.part_step text facts numbers) (r.body_step text facts numbers) parts
 
   tests_do : (command : CommandTree) → TestsPart (p.Do command)
   tests_do command none =
       subst (λ i. All IsFact (facts_of_part i)) (sym (do_row command))
-      (subst (All IsFact) (sym (do_is (List ℕ) (List ℕ) part_facts body_facts (r.command_row text counts names command))) (All-nil IsFact))
+      (subst (All IsFact) (sym (do_is (List ℕ) (List ℕ) part_facts body_facts (r.command_row text facts numbers command))) (All-nil IsFact))
 
   tests_if : (guard : CondTree) (body : BodyTree) → TestsBody body → TestsPart (p.If guard body None)
   tests_if guard body well none =
-      let g = f.cond_faults text known no_rules guard in
-      let b = f.body_faults text known no_rules body in
+      let g = f.cond_faults text known no_rules Requests guard in
+      let b = f.body_faults text known no_rules Requests body in
       let both = no_front (g ++ b) [] (if_faults guard body None none) in
       subst (λ i. All IsFact (facts_of_part i)) (sym (if_row guard body None))
-      (subst (All IsFact) (sym (if_is (List ℕ) (List ℕ) part_facts body_facts (r.cond_row text counts names guard) (r.body_row text counts names body) None))
-      (All-append IsFact (facts_tested (r.cond_row text counts names guard) ++ facts_of_guards (r.body_row text counts names body)) []
-      (All-append IsFact (facts_tested (r.cond_row text counts names guard)) (facts_of_guards (r.body_row text counts names body)) (cond_well guard (no_front g b both)) (well (no_back g b both)))
+      (subst (All IsFact) (sym (if_is (List ℕ) (List ℕ) part_facts body_facts (r.cond_row text facts numbers guard) (r.body_row text facts numbers body) None))
+      (All-append IsFact (facts_tested (r.cond_row text facts numbers guard) ++ facts_of_guards (r.body_row text facts numbers body)) []
+      (All-append IsFact (facts_tested (r.cond_row text facts numbers guard)) (facts_of_guards (r.body_row text facts numbers body)) (cond_well guard (no_front g b both)) (well (no_back g b both)))
       (All-nil IsFact)))
 
   tests_if_else : (guard : CondTree) (body other : BodyTree) → TestsBody body → TestsBody other → TestsPart (p.If guard body (Some other))
   tests_if_else guard body other well others none =
-      let g = f.cond_faults text known no_rules guard in
-      let b = f.body_faults text known no_rules body in
-      let o = f.body_faults text known no_rules other in
+      let g = f.cond_faults text known no_rules Requests guard in
+      let b = f.body_faults text known no_rules Requests body in
+      let o = f.body_faults text known no_rules Requests other in
       let all = if_faults guard body (Some other) none in
       let both = no_front (g ++ b) o all in
       subst (λ i. All IsFact (facts_of_part i)) (sym (if_row guard body (Some other)))
-      (subst (All IsFact) (sym (if_is (List ℕ) (List ℕ) part_facts body_facts (r.cond_row text counts names guard) (r.body_row text counts names body) (Some (r.body_row text counts names other))))
-      (All-append IsFact (facts_tested (r.cond_row text counts names guard) ++ facts_of_guards (r.body_row text counts names body)) (facts_of_guards (r.body_row text counts names other))
-      (All-append IsFact (facts_tested (r.cond_row text counts names guard)) (facts_of_guards (r.body_row text counts names body)) (cond_well guard (no_front g b both)) (well (no_back g b both)))
+      (subst (All IsFact) (sym (if_is (List ℕ) (List ℕ) part_facts body_facts (r.cond_row text facts numbers guard) (r.body_row text facts numbers body) (Some (r.body_row text facts numbers other))))
+      (All-append IsFact (facts_tested (r.cond_row text facts numbers guard) ++ facts_of_guards (r.body_row text facts numbers body)) (facts_of_guards (r.body_row text facts numbers other))
+      (All-append IsFact (facts_tested (r.cond_row text facts numbers guard)) (facts_of_guards (r.body_row text facts numbers body)) (cond_well guard (no_front g b both)) (well (no_back g b both)))
       (others (no_back (g ++ b) o all))))
 
   tests_parts : (parts : List PartTree) → AllByRecursion TestsPart parts → TestsBody (record { parts = parts })
   tests_parts parts each none =
       subst (λ b. All IsFact (facts_of_guards b)) (sym (body_row_is parts))
-      (subst (All IsFact) (sym (body_is (List ℕ) (List ℕ) part_facts body_facts (map (r.part_row text counts names) parts)))
-      (parts_well IsFact (f.part_faults text known no_rules) (r.part_row text counts names) facts_of_part parts each (body_faults_are parts none)))
+      (subst (All IsFact) (sym (body_is (List ℕ) (List ℕ) part_facts body_facts (map (r.part_row text facts numbers) parts)))
+      (parts_well IsFact (f.part_faults text known no_rules Requests) (r.part_row text facts numbers) facts_of_part parts each (body_faults_are parts none)))
 
   -- a body without faults tests facts that there are
   pub body_tests : (tree : BodyTree) → TestsBody tree
@@ -330,36 +339,36 @@ module _ (text : List ℕ) (names : Kind → List (List ℕ)) where
 
   commands_do : (command : CommandTree) → CommandsPart (p.Do command)
   commands_do command none =
-      let row = r.command_row text counts names command in
+      let row = r.command_row text facts numbers command in
       subst (λ i. All IsRequestCommand (commands_of_part i)) (sym (do_row command))
       (subst (All IsRequestCommand) (sym (do_is (List Cmd) (List Cmd) part_commands body_commands row))
       (All-cons IsRequestCommand row []
-      (command_well command (sym (tree_do_is (List Fault) (List Fault) (f.part_step text known no_rules) (f.body_step text known no_rules) command) ∙ none)) (All-nil IsRequestCommand)))
+      (command_well command (sym (tree_do_is (List Fault) (List Fault) (f.part_step text known no_rules Requests) (f.body_step text known no_rules Requests) command) ∙ none)) (All-nil IsRequestCommand)))
 
   commands_if : (guard : CondTree) (body : BodyTree) → CommandsBody body → CommandsPart (p.If guard body None)
   commands_if guard body well none =
-      let g = f.cond_faults text known no_rules guard in
-      let b = f.body_faults text known no_rules body in
+      let g = f.cond_faults text known no_rules Requests guard in
+      let b = f.body_faults text known no_rules Requests body in
       let both = no_front (g ++ b) [] (if_faults guard body None none) in
       subst (λ i. All IsRequestCommand (commands_of_part i)) (sym (if_row guard body None))
-      (subst (All IsRequestCommand) (sym (if_is (List Cmd) (List Cmd) part_commands body_commands (r.cond_row text counts names guard) (r.body_row text counts names body) None))
-      (All-append IsRequestCommand (commands_of (r.body_row text counts names body)) [] (well (no_back g b both)) (All-nil IsRequestCommand)))
+      (subst (All IsRequestCommand) (sym (if_is (List Cmd) (List Cmd) part_commands body_commands (r.cond_row text facts numbers guard) (r.body_row text facts numbers body) None))
+      (All-append IsRequestCommand (commands_of (r.body_row text facts numbers body)) [] (well (no_back g b both)) (All-nil IsRequestCommand)))
 
   commands_if_else : (guard : CondTree) (body other : BodyTree) → CommandsBody body → CommandsBody other → CommandsPart (p.If guard body (Some other))
   commands_if_else guard body other well others none =
-      let g = f.cond_faults text known no_rules guard in
-      let b = f.body_faults text known no_rules body in
-      let o = f.body_faults text known no_rules other in
+      let g = f.cond_faults text known no_rules Requests guard in
+      let b = f.body_faults text known no_rules Requests body in
+      let o = f.body_faults text known no_rules Requests other in
       let all = if_faults guard body (Some other) none in
       subst (λ i. All IsRequestCommand (commands_of_part i)) (sym (if_row guard body (Some other)))
-      (subst (All IsRequestCommand) (sym (if_is (List Cmd) (List Cmd) part_commands body_commands (r.cond_row text counts names guard) (r.body_row text counts names body) (Some (r.body_row text counts names other))))
-      (All-append IsRequestCommand (commands_of (r.body_row text counts names body)) (commands_of (r.body_row text counts names other)) (well (no_back g b (no_front (g ++ b) o all))) (others (no_back (g ++ b) o all))))
+      (subst (All IsRequestCommand) (sym (if_is (List Cmd) (List Cmd) part_commands body_commands (r.cond_row text facts numbers guard) (r.body_row text facts numbers body) (Some (r.body_row text facts numbers other))))
+      (All-append IsRequestCommand (commands_of (r.body_row text facts numbers body)) (commands_of (r.body_row text facts numbers other)) (well (no_back g b (no_front (g ++ b) o all))) (others (no_back (g ++ b) o all))))
 
   commands_parts : (parts : List PartTree) → AllByRecursion CommandsPart parts → CommandsBody (record { parts = parts })
   commands_parts parts each none =
       subst (λ b. All IsRequestCommand (commands_of b)) (sym (body_row_is parts))
-      (subst (All IsRequestCommand) (sym (body_is (List Cmd) (List Cmd) part_commands body_commands (map (r.part_row text counts names) parts)))
-      (parts_well IsRequestCommand (f.part_faults text known no_rules) (r.part_row text counts names) commands_of_part parts each (body_faults_are parts none)))
+      (subst (All IsRequestCommand) (sym (body_is (List Cmd) (List Cmd) part_commands body_commands (map (r.part_row text facts numbers) parts)))
+      (parts_well IsRequestCommand (f.part_faults text known no_rules Requests) (r.part_row text facts numbers) commands_of_part parts each (body_faults_are parts none)))
 
   -- a body without faults commands facts that requests may command
   pub body_commands_well : (tree : BodyTree) → CommandsBody tree

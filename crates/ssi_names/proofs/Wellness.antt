@@ -22,12 +22,13 @@ use Rattle.ssi_names.specs.Uses.{facts_of_guards, commands_of}
 use Rattle.ssi_names.specs.SourceTexts.{SourceText}
 use Rattle.ssi_names.specs.Codes.{unknown, too_many, points_twice_in_subroute}
 use Rattle.ssi_names.specs.declared.fault.Fault.{Fault}
+use Rattle.ssi_names.specs.declared.rule_file.RuleFile.TheVariants.{Requests}
 use Rattle.ssi_names.specs.Declarations.{declared, is_declared_in, is_wired_in, no_rules}
 use Rattle.ssi_names.specs.Formed.{IsFormed}
 use Rattle.ssi_names.specs.Faults as f
 use Rattle.ssi_names.specs.NameLists.{is_among}
 use Rattle.ssi_names.specs.Occurrences.{at, in_order}
-use Rattle.ssi_names.specs.Rows.{number_in, points_row, route_row, lie_row, sub_row, request_row, counts_by, resolved}
+use Rattle.ssi_names.specs.Rows.{number_in, points_row, route_row, lie_row, sub_row, request_row, counts_by, fact_by_name, number_by_name, resolved}
 use Rattle.ssi_names.specs.Texts.{characters}
 use Rattle.ssi_names.specs.Well.{IsNameOf, IsWellPoints, IsWellRoute, IsWellSub, IsRequestFact, IsWellRequest, IsWellModule, wired_kind, IsWell}
 use Rattle.ssi_names.specs.FilledTrees.{is_filled}
@@ -145,10 +146,11 @@ route_well text tree earlier entry none some =
     let name = f.name_faults text (λ (e : RouteText). e.name) 512 earlier entry in
     let signal = f.reference_faults text (is_declared_in text tree Signal) entry.signal in
     let members = in_order (f.member_faults text (is_declared_in text tree Subroute) 32) [] entry.subs in
-    let subs = members_well text (declared text tree Subroute) 32 entry.subs (no_back (name ++ signal) members none) in
+    let rest = no_back name (signal ++ members) none in
+    let subs = members_well text (declared text tree Subroute) 32 entry.subs (no_back signal members rest) in
     let same : length (map (number_in text (declared text tree Subroute)) entry.subs) ≡ length entry.subs = simp length-map in
     record {
-      signal = number_below text (declared text tree Signal) entry.signal [] (no_back name signal (no_front (name ++ signal) members none));
+      signal = number_below text (declared text tree Signal) entry.signal [] (no_front signal members rest);
       subs = subst (λ n. All (λ sub. sub < n) (map (number_in text (declared text tree Subroute)) entry.subs))
           (same_count (λ (e : SubText). characters text e.name) (sub_row text (declared text tree)) tree.identities.subs) subs.0;
       some = omega (arith, same, some);
@@ -164,12 +166,13 @@ sub_well text tree earlier entry none =
     let name = f.name_faults text (λ (e : SubText). e.name) 1024 earlier entry in
     let track = f.reference_faults text (is_declared_in text tree Track) entry.track in
     let lies = in_order judge [] entry.lies in
-    let fine = no_back (name ++ track) lies none in
+    let rest = no_back name (track ++ lies) none in
+    let fine = no_back track lies rest in
     let below = each_fine judge (λ (lie : Spot × Spot). number_in text names lie.0 < length names)
     (λ before lie so. place_below names (characters text lie.0) (lie_fits text names before lie so).known) [] entry.lies fine
     in
     record {
-      track = number_below text (declared text tree Track) entry.track [] (no_back name track (no_front (name ++ track) lies none));
+      track = number_below text (declared text tree Track) entry.track [] (no_front track lies rest);
       points = subst (λ n. All (λ (lie : ℕ × Bool). lie.0 < n) (map row entry.lies)) (same_count (λ (e : PointsText). characters text e.name) (points_row text (declared text tree)) tree.identities.points)
           (All-map (λ (lie : ℕ × Bool). lie.0 < length names) row entry.lies below);
       few = few_rows row judge 8 (λ before lie so. (lie_fits text names before lie so).room) entry.lies fine;
@@ -205,10 +208,10 @@ request_well : (text : List ℕ) (tree : SourceText) (earlier : List (Spot × Bo
     → is_filled entry.1 ≡ true → IsWellRequest (resolved text tree) (request_row text (declared text tree) entry)
 request_well text tree earlier entry none filled =
     let names = declared text tree in
-    let body = no_back (f.request_name_faults text earlier entry.0) (body_faults text (is_declared_in text tree) no_rules entry.1) none in
+    let body = no_back (f.request_name_faults text earlier entry.0) (body_faults text (is_declared_in text tree) no_rules Requests entry.1) none in
     let row = request_row text names entry in
     record {
-      filled = same_body text (counts_by names) names entry.1 ∙ filled;
+      filled = same_body text (fact_by_name (counts_by names) names) (number_by_name names) entry.1 ∙ filled;
       tests = subst (λ counts. All (λ fact. fact < fact_count_of counts) (facts_of_guards row.body)) (counts_are text tree) (body_tests text names entry.1 body);
       commands = subst (λ counts. All (λ (command : Cmd). IsRequestFact counts command.fact) (commands_of row.body)) (counts_are text tree) (body_commands_well text names entry.1 body);
     }

@@ -1,4 +1,4 @@
--- The faults of conditions and bodies in PRR, in written order: a name before its word, a guard before its branches.
+-- The faults of conditions and bodies, in written order: a name before its word, a guard before its branches.
 use Rattle.std.specs.Prelude.{ℕ, Bool, ◌&&◌, true, false, not, List, [], ◌∷◌, ◌++◌, Option, Some, None}
 use Rattle.ssi_identities.specs.declared.fact.Kind.{Kind}
 use Rattle.ssi_terms.specs.declared.tree.Spot.{Spot}
@@ -10,10 +10,11 @@ use Rattle.ssi_terms.specs.declared.tree.PartTree.{PartTree, fold-PartTree}
 use Rattle.ssi_terms.specs.declared.tree.PartTree.TheOpen.{PartTree-F, BodyTree-F}
 use Rattle.ssi_terms.specs.declared.tree.BodyTree.{BodyTree, fold-BodyTree}
 use Rattle.ssi_names.specs.declared.fault.Fault.{Fault}
+use Rattle.ssi_names.specs.declared.rule_file.RuleFile.{RuleFile}
 use Rattle.ssi_names.specs.Codes.{unknown, wrong_word, not_in_this_file, no_pfm}
 use Rattle.ssi_names.specs.Occurrences.{at, joined}
 use Rattle.ssi_names.specs.Texts.{characters}
-use Rattle.ssi_names.specs.Words.{kind_of, fact_of_word, lie_of_word, is_test, is_command, may_request}
+use Rattle.ssi_names.specs.Words.{kind_of, fact_of_word, lie_of_word, is_test, is_command, may_command}
 
 -- whether a test asks for a lie of points, and no rule says when they are free to go to it
 abbrev pub lacks_rule : (Bool → Bool) → Option Bool → Bool
@@ -25,7 +26,8 @@ abbrev pub else_faults : Option (List Fault) → List Fault
 else_faults None = []
 else_faults (Some faults) = faults
 
-module _ (text : List ℕ) (is_declared : Kind → List ℕ → Bool) (has_rule : List ℕ → Bool → Bool) where
+-- by the text, by what is declared, by which lies of points have a rule, and by the file
+module _ (text : List ℕ) (is_declared : Kind → List ℕ → Bool) (has_rule : List ℕ → Bool → Bool) (file : RuleFile) where
   -- a name in a condition or a command: not declared, as one of the kind that its first letter tells
   abbrev pub use_faults : Spot → List Fault
   use_faults name = at name ((not (is_declared (kind_of (characters text name)) (characters text name)), unknown) ∷ [])
@@ -42,7 +44,7 @@ module _ (text : List ℕ) (is_declared : Kind → List ℕ → Bool) (has_rule 
   command_word_faults name word =
       at word (
       (not (is_command (kind_of name) (characters text word)), wrong_word)
-      ∷ (not (may_request (fact_of_word (kind_of name) (characters text word))), not_in_this_file) ∷ [])
+      ∷ (not (may_command file (fact_of_word (kind_of name) (characters text word))), not_in_this_file) ∷ [])
 
   -- an item of a condition: a test, a bit of a report, which doesn't stand in this file, or a group
   abbrev pub item_step : ItemTree-F (List Fault) (List Fault) → List Fault

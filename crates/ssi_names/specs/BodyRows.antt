@@ -1,11 +1,6 @@
 -- Conditions and bodies with numbers of facts. They tell something only where there are no faults.
-use Rattle.std.specs.Prelude.{ℕ, Bool, false, List, position, Option, Some, None}
-use Rattle.std.specs.List.{position_or_len}
-use Rattle.std.specs.Str.{bytes_eq}
-use Rattle.ssi_identities.specs.declared.fact.Counts.{Counts}
+use Rattle.std.specs.Prelude.{ℕ, Bool, false, List, Option, Some, None}
 use Rattle.ssi_identities.specs.declared.fact.FactKind.{FactKind}
-use Rattle.ssi_identities.specs.declared.fact.Kind.{Kind}
-use Rattle.ssi_identities.specs.declared.fact.Kind.TheVariants.{Points}
 use Rattle.ssi_identities.specs.declared.rule.CondItem.{CondItem}
 use Rattle.ssi_identities.specs.declared.rule.CondItem.TheVariants as item
 use Rattle.ssi_identities.specs.declared.rule.Cond.{Cond}
@@ -13,7 +8,6 @@ use Rattle.ssi_identities.specs.declared.rule.Cmd.{Cmd}
 use Rattle.ssi_identities.specs.declared.rule.BodyItem.{BodyItem}
 use Rattle.ssi_identities.specs.declared.rule.BodyItem.TheVariants as part
 use Rattle.ssi_identities.specs.declared.rule.Body.{Body}
-use Rattle.ssi_identities.specs.Facts.{fact_number_of}
 use Rattle.ssi_terms.specs.declared.tree.Spot.{Spot}
 use Rattle.ssi_terms.specs.declared.tree.CommandTree.{CommandTree}
 use Rattle.ssi_terms.specs.declared.tree.ItemTree.{ItemTree, fold-ItemTree}
@@ -25,29 +19,24 @@ use Rattle.ssi_terms.specs.declared.tree.BodyTree.{BodyTree, fold-BodyTree}
 use Rattle.ssi_names.specs.Texts.{characters}
 use Rattle.ssi_names.specs.Words.{kind_of, fact_of_word, lie_of_word}
 
-module _ (text : List ℕ) (counts : Counts) (names : Kind → List (List ℕ)) where
-  -- the number of a fact by its identity's number; 0 where there is none
-  abbrev pub number_at : FactKind → Option ℕ → ℕ
-  number_at fact None = 0
-  number_at fact (Some index) = fact_number_of counts fact index
-
-  -- the number of the fact that is said of a name, and its value
-  abbrev pub fact_by : List (List ℕ) → List ℕ → Option (FactKind × Bool) → ℕ × Bool
-  fact_by names name None = (0, false)
-  fact_by names name (Some said) = (number_at said.0 (position (bytes_eq name) names), said.1)
+-- by the text, by the number of a fact of the identity with a name, and by the number of a name
+module _ (text : List ℕ) (fact_of : FactKind → List ℕ → ℕ) (number_of : List ℕ → ℕ) where
+  -- the number of the fact that is said of a name, and its value; fact 0 where nothing is said
+  abbrev pub said_of : List ℕ → Option (FactKind × Bool) → ℕ × Bool
+  said_of name None = (0, false)
+  said_of name (Some said) = (fact_of said.0 name, said.1)
 
   -- the number of the fact that a word says of a name, and its value
   abbrev pub fact_at : Spot → Spot → ℕ × Bool
-  fact_at name word =
-      fact_by (names (kind_of (characters text name))) (characters text name) (fact_of_word (kind_of (characters text name)) (characters text word))
+  fact_at name word = said_of (characters text name) (fact_of_word (kind_of (characters text name)) (characters text word))
 
   -- a test: points are controlled to a lie or free to go to it, or a fact has a value
-  abbrev pub test_by : Spot → ℕ × Bool → Option Bool → CondItem
-  test_by name said (Some lie) = item.Free (position_or_len (bytes_eq (characters text name)) (names Points)) lie
+  abbrev pub test_by : List ℕ → ℕ × Bool → Option Bool → CondItem
+  test_by name said (Some lie) = item.Free (number_of name) lie
   test_by name said None = item.Lit said.0 said.1
 
   abbrev pub test_row : Spot → Spot → CondItem
-  test_row name word = test_by name (fact_at name word) (lie_of_word (kind_of (characters text name)) (characters text word))
+  test_row name word = test_by (characters text name) (fact_at name word) (lie_of_word (kind_of (characters text name)) (characters text word))
 
   -- an item of a condition; a bit doesn't stand in this file
   abbrev pub item_step : ItemTree-F CondItem Cond → CondItem

@@ -6,6 +6,7 @@ use Rattle.ssi_identities.specs.declared.fact.Kind.{Kind}
 use Rattle.ssi_identities.specs.declared.fact.Kind.TheVariants.{Points, Signal, Track, Subroute}
 use Rattle.ssi_terms.specs.declared.tree.Spot.{Spot}
 use Rattle.ssi_names.specs.declared.fault.Fault.{Fault}
+use Rattle.ssi_names.specs.declared.rule_file.RuleFile.TheVariants.{Requests}
 use Rattle.ssi_names.specs.Codes.{unknown, twice, block_twice, bad_pin, not_wired, wired_twice, too_many, points_twice_in_subroute}
 use Rattle.ssi_terms.specs.Trees.{PointsText, RouteText, SubText, ModuleText, IdentityText}
 use Rattle.ssi_terms.specs.declared.tree.BodyTree.{BodyTree}
@@ -95,14 +96,14 @@ track_faults text is_wired earlier track = wired_name_faults text is_wired (λ (
 -- an entry of RTE
 abbrev pub route_faults : List ℕ → (Kind → List ℕ → Bool) → List RouteText → RouteText → List Fault
 route_faults text is_declared earlier route =
-    name_faults text (λ (e : RouteText). e.name) 512 earlier route ++ reference_faults text (is_declared Signal) route.signal
-    ++ in_order (member_faults text (is_declared Subroute) 32) [] route.subs
+    name_faults text (λ (e : RouteText). e.name) 512 earlier route
+    ++ (reference_faults text (is_declared Signal) route.signal ++ in_order (member_faults text (is_declared Subroute) 32) [] route.subs)
 
 -- an entry of SUB
 abbrev pub sub_faults : List ℕ → (Kind → List ℕ → Bool) → List SubText → SubText → List Fault
 sub_faults text is_declared earlier sub =
-    name_faults text (λ (e : SubText). e.name) 1024 earlier sub ++ reference_faults text (is_declared Track) sub.track
-    ++ in_order (lie_faults text (is_declared Points)) [] sub.lies
+    name_faults text (λ (e : SubText). e.name) 1024 earlier sub
+    ++ (reference_faults text (is_declared Track) sub.track ++ in_order (lie_faults text (is_declared Points)) [] sub.lies)
 
 -- an entry of FLG
 abbrev pub flag_faults : List ℕ → List Spot → Spot → List Fault
@@ -129,7 +130,7 @@ request_name_faults text earlier name =
 -- an entry of PRR
 abbrev pub request_faults : List ℕ → (Kind → List ℕ → Bool) → (List ℕ → Bool → Bool) → List (Spot × BodyTree) → Spot × BodyTree → List Fault
 request_faults text is_declared has_rule earlier request =
-    request_name_faults text earlier request.0 ++ body_faults text is_declared has_rule request.1
+    request_name_faults text earlier request.0 ++ body_faults text is_declared has_rule Requests request.1
 
 -- the faults of the files of identities in their order, by what is declared and what is wired
 abbrev pub identity_faults : List ℕ → (Kind → List ℕ → Bool) → (List ℕ → Bool) → IdentityText → List Fault

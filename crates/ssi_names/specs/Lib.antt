@@ -14,6 +14,7 @@ pub mod Spelled
 pub mod BodyRows
 pub mod ModuleRows
 pub mod Rows
+pub mod Scopes
 pub mod Uses
 pub mod Filled
 pub mod FilledTrees

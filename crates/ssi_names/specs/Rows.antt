@@ -1,13 +1,15 @@
 -- The data set of a source: numbers in place of names, each list in written order. It tells something only where the
 -- source has no name faults.
-use Rattle.std.specs.Prelude.{ℕ, Bool, codes, List, [], map, length, None}
+use Rattle.std.specs.Prelude.{ℕ, Bool, codes, List, [], map, length, position, Option, Some, None}
 use Rattle.std.specs.List.{position_or_len}
 use Rattle.std.specs.Str.{bytes_eq}
 use Rattle.ssi_identities.specs.declared.fact.Kind.{Kind}
 use Rattle.ssi_identities.specs.declared.fact.Kind.TheVariants.{Points, Signal, Track, Route, Subroute, Flag, Request}
 use Rattle.ssi_identities.specs.declared.fact.Counts.{Counts}
+use Rattle.ssi_identities.specs.declared.fact.FactKind.{FactKind}
 use Rattle.ssi_identities.specs.declared.data_set.RequestRow.{RequestRow}
 use Rattle.ssi_identities.specs.DataSets.{PointsPlan, RoutePlan, SubPlan, Plan}
+use Rattle.ssi_identities.specs.Facts.{fact_number_of}
 use Rattle.ssi_terms.specs.declared.tree.Spot.{Spot}
 use Rattle.ssi_terms.specs.declared.tree.BodyTree.{BodyTree}
 use Rattle.ssi_terms.specs.Trees.{PointsText, RouteText, SubText}
@@ -16,10 +18,24 @@ use Rattle.ssi_names.specs.BodyRows.{body_row}
 use Rattle.ssi_names.specs.ModuleRows.{module_row}
 use Rattle.ssi_names.specs.Declarations.{declared}
 use Rattle.ssi_names.specs.Texts.{characters}
+use Rattle.ssi_names.specs.Words.{kind_of}
 
 -- the number of a name: the place of its first declaration
 abbrev pub number_in : List ℕ → List (List ℕ) → Spot → ℕ
 number_in text names name = position_or_len (bytes_eq (characters text name)) names
+
+-- the number of a fact by its identity's number; 0 where there is none
+abbrev pub number_at : Counts → FactKind → Option ℕ → ℕ
+number_at counts fact None = 0
+number_at counts fact (Some index) = fact_number_of counts fact index
+
+-- the number of a fact of the identity with a name
+abbrev pub fact_by_name : Counts → (Kind → List (List ℕ)) → FactKind → List ℕ → ℕ
+fact_by_name counts names fact name = number_at counts fact (position (bytes_eq name) (names (kind_of name)))
+
+-- the number of a name among those of its kind
+abbrev pub number_by_name : (Kind → List (List ℕ)) → List ℕ → ℕ
+number_by_name names name = position_or_len (bytes_eq name) (names (kind_of name))
 
 -- how many names of each kind there are
 abbrev pub counts_by : (Kind → List (List ℕ)) → Counts
@@ -65,7 +81,7 @@ module _ (text : List ℕ) (names : Kind → List (List ℕ)) where
 
   -- a request with its body
   abbrev pub request_row : Spot × BodyTree → RequestRow
-  request_row entry = record { name = characters text entry.0; body = body_row text (counts_by names) names entry.1 }
+  request_row entry = record { name = characters text entry.0; body = body_row text (fact_by_name (counts_by names) names) (number_by_name names) entry.1 }
 
   -- the data set, by the names of each kind
   abbrev pub plan_by : SourceText → Plan

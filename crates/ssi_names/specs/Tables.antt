@@ -1,11 +1,13 @@
 -- What the tables of names know.
-use Rattle.std.specs.Prelude.{◌≡◌, ◌<◌, ℕ, Bool, List, length}
+use Rattle.std.specs.Prelude.{◌≡◌, ◌<◌, ℕ, Bool, if◌then◌else◌, List, [], map, length}
 use Rattle.ssi_identities.specs.declared.fact.Kind.{Kind}
 use Rattle.ssi_identities.specs.declared.fact.Kind.TheVariants.{Points, Signal, Track, Route, Subroute, Flag, Request}
 use Rattle.ssi_names.specs.declared.tables.Tables.{Tables}
 use Rattle.ssi_names.specs.SourceTexts.{SourceText}
 use Rattle.ssi_names.specs.Declarations.{declared, pins_of, names_at}
 use Rattle.ssi_names.specs.NameLists.{is_among, set_of}
+use Rattle.ssi_names.specs.Texts.{characters}
+use Rattle.ssi_terms.specs.Trees.{IdentityText}
 
 -- the names of a kind
 abbrev pub table_of : Tables → Kind → List (List ℕ)
@@ -25,10 +27,46 @@ knows tables kind name = is_among name (table_of tables kind)
 abbrev pub wires : Tables → List ℕ → Bool
 wires tables name = is_among name tables.wired
 
--- the tables have each declared and each wired name once
+-- whether points are in the table of those for which a rule says when they are free to go to a lie
+abbrev pub rules : Tables → List ℕ → Bool → Bool
+rules tables name lie = is_among name (if lie then tables.free_reverse else tables.free_normal)
+
+-- tables with no names
+abbrev pub no_tables : Tables
+no_tables = record {
+  points = [];
+  signals = [];
+  tracks = [];
+  routes = [];
+  subs = [];
+  flags = [];
+  requests = [];
+  wired = [];
+  free_normal = [];
+  free_reverse = [];
+}
+
+-- tables of the names that the files of identities declare, and of those at pins
+abbrev pub tables_of_identities : List ℕ → IdentityText → Tables
+tables_of_identities text tree = record {
+  points = set_of (map (λ entry. characters text entry.name) tree.points);
+  signals = set_of (map (λ spot. characters text spot) tree.signals);
+  tracks = set_of (map (λ spot. characters text spot) tree.tracks);
+  routes = set_of (map (λ entry. characters text entry.name) tree.routes);
+  subs = set_of (map (λ entry. characters text entry.name) tree.subs);
+  flags = set_of (map (λ spot. characters text spot) tree.flags);
+  requests = [];
+  wired = set_of (names_at text (pins_of tree.modules));
+  free_normal = [];
+  free_reverse = [];
+}
+
+-- the tables have each declared and each wired name once, and no points with a rule
 pub record AreTablesOf (text : List ℕ) (tree : SourceText) (tables : Tables) : Type 0 where
   pub declared_names : (kind : Kind) → table_of tables kind ≡ set_of (declared text tree kind)
   pub wired_names : tables.wired ≡ set_of (names_at text (pins_of tree.identities.modules))
+  pub no_normal : tables.free_normal ≡ []
+  pub no_reverse : tables.free_reverse ≡ []
 
 -- so few names that a number of 16 bits says the place of each
 pub record IsSmall (tables : Tables) : Type 0 where

@@ -7,6 +7,8 @@ use Rattle.ssi_identities.specs.declared.fact.FactKind.{FactKind}
 use Rattle.ssi_identities.specs.declared.fact.FactKind.TheVariants as fact
 use Rattle.ssi_identities.specs.Words.{word_of}
 use Rattle.ssi_lexer.specs.TokenTests.{begins_with}
+use Rattle.ssi_names.specs.declared.rule_file.RuleFile.{RuleFile}
+use Rattle.ssi_names.specs.declared.rule_file.RuleFile.TheVariants.{Requests}
 
 -- the letter with which the names of a kind begin
 abbrev pub letter_of : Kind → List ℕ
@@ -69,7 +71,11 @@ is_fact_of_requests fact.Locked = true
 is_fact_of_requests fact.FlagSet = true
 is_fact_of_requests _ = false
 
--- whether requests may command what a word says
-abbrev pub may_request : Option (FactKind × Bool) → Bool
-may_request None = false
-may_request (Some said) = is_fact_of_requests said.0
+-- the facts that the bodies of a file may command
+abbrev pub is_fact_of_file : RuleFile → FactKind → Bool
+is_fact_of_file Requests fact = is_fact_of_requests fact
+
+-- whether the bodies of a file may command what a word says
+abbrev pub may_command : RuleFile → Option (FactKind × Bool) → Bool
+may_command file None = false
+may_command file (Some said) = is_fact_of_file file said.0

@@ -1,115 +1,112 @@
-//! Bodies: every name is declared, and every word is a test or a command that PRR may have.
+//! Bodies: each name is declared, each word is a test or a command that the file may have, and both become a number.
 
-ghost use Rattle.std.specs.Prelude.{◌≡◌, ◌++◌, option_map, OnOk};
-ghost use Rattle.ssi_names.specs.Bodies as spec;
-ghost use Rattle.ssi_names.specs.Declarations.{no_rules};
-ghost use Rattle.ssi_names.specs.Tables.{knows};
+ghost use Rattle.std.specs.Prelude.{◌≡◌, ◌++◌, option_map, IfOk, OnOk};
+ghost use Rattle.ssi_names.specs.Bodies.{else_faults};
+ghost use Rattle.ssi_names.specs.Scopes as spec;
+ghost use Rattle.ssi_names.specs.Scopes.{AreLimited};
+ghost use Rattle.ssi_names.specs.Tables.{table_of};
 
-use crate::code::{NOT_IN_THIS_FILE, WRONG_WORD};
-use crate::conditions::{cond, used_name};
+use crate::code::{NOT_IN_THIS_FILE, UNKNOWN, WRONG_WORD};
+use crate::conditions::cond;
 use crate::fault::{Fault, note};
-use crate::tables::Tables;
+use crate::scope::{Scope, fact_said, look_up};
 use crate::text::characters;
-use crate::words::{fact_by_word, kind_by_name, may_request};
+use crate::words::{fact_by_word, may_command};
+use sqlite_items::Items;
 use ssi_base::OutOfMemory;
-use ssi_terms::{BodyTree, CommandTree, PartTree, Spot};
+use ssi_identities::{Body, BodyItem, Cmd};
+use ssi_terms::{BodyTree, CommandTree, PartTree};
+use std::alloc::Global;
 
-/// Notes the fault of the word of a command.
-fn command_word(
-    text: &[u8],
-    tables: &Tables,
-    name: &[u8],
-    word: &Spot,
-    faults: &mut Vec<Fault>,
-) -> Result<(), OutOfMemory>
-    ensures { OnOk result (faults.new.items ≡ faults.old.items
-        ++ spec.command_word_faults text.now (knows tables.now) no_rules name.now word.now) }
-{
-    let said = fact_by_word(kind_by_name(name), characters(text, word));
-    let wrong = said.is_none();
-    let elsewhere = !may_request(said);
-    note(
-        faults,
-        word,
-        &[(wrong, WRONG_WORD), (elsewhere, NOT_IN_THIS_FILE)],
-    )
-}
-
-/// Notes the faults of a command.
+/// The command of a tree. Notes its faults.
 #[tactic(auto, using(std::proofs::lemmas::List::append_assoc))]
 fn command(
-    text: &[u8],
-    tables: &Tables,
+    scope: &Scope<'_>,
     tree: &CommandTree,
     faults: &mut Vec<Fault>,
-) -> Result<(), OutOfMemory>
-    ensures { OnOk result (faults.new.items ≡ faults.old.items
-        ++ spec.command_faults text.now (knows tables.now) no_rules tree.now) }
+) -> Result<Cmd, OutOfMemory>
+    requires { AreLimited scope.now.counts (table_of scope.now.tables.now) }
+    ensures faults { OnOk result (faults.new.items ≡ faults.old.items ++ spec.command_faults scope.now tree.now) }
+    ensures row { IfOk result (λ row. row ≡ spec.command_row scope.now tree.now) }
 {
-    used_name(text, tables, &tree.name, faults)?;
-    command_word(
-        text,
-        tables,
-        characters(text, &tree.name),
-        &tree.word,
+    let used = look_up(scope, &tree.name);
+    let said = fact_by_word(used.kind, characters(scope.text, &tree.word));
+    let unknown = used.place.is_none();
+    let wrong = said.is_none();
+    let elsewhere = !may_command(scope.file, said);
+    note(faults, &tree.name, &[(unknown, UNKNOWN)])?;
+    note(
         faults,
-    )
+        &tree.word,
+        &[(wrong, WRONG_WORD), (elsewhere, NOT_IN_THIS_FILE)],
+    )?;
+    let (fact, value) = fact_said(scope, &used, said);
+    Ok(Cmd { fact, value })
 }
 
-/// Notes the faults of a body.
+/// The body of a tree. Notes its faults.
 #[cycle(body)]
 pub fn body(
-    text: &[u8],
-    tables: &Tables,
+    alloc: Global,
+    scope: &Scope<'_>,
     tree: &BodyTree,
     faults: &mut Vec<Fault>,
-) -> Result<(), OutOfMemory>
-    ensures { OnOk result (faults.new.items ≡ faults.old.items
-        ++ spec.body_faults text.now (knows tables.now) no_rules tree.now) }
+) -> Result<Body, OutOfMemory>
+    requires { AreLimited scope.now.counts (table_of scope.now.tables.now) }
+    ensures faults { OnOk result (faults.new.items ≡ faults.old.items ++ spec.body_faults scope.now tree.now) }
+    ensures row { IfOk result (λ row. row ≡ spec.body_row scope.now tree.now) }
 {
+    let mut items = Items::from_vec(Vec::with_capacity(alloc, tree.parts.len())?);
     for piece in tree.parts.as_slice() {
-        part(text, tables, piece, faults)?;
+        items.push(part(alloc, scope, piece, faults)?)?;
     }
-    Ok(())
+    Ok(Body { items })
 }
 
 #[cycle(body)]
 #[tactic(auto, using(std::proofs::lemmas::List::append_assoc))]
 fn part(
-    text: &[u8],
-    tables: &Tables,
+    alloc: Global,
+    scope: &Scope<'_>,
     tree: &PartTree,
     faults: &mut Vec<Fault>,
-) -> Result<(), OutOfMemory>
-    ensures { OnOk result (faults.new.items ≡ faults.old.items
-        ++ spec.part_faults text.now (knows tables.now) no_rules tree.now) }
+) -> Result<BodyItem, OutOfMemory>
+    requires { AreLimited scope.now.counts (table_of scope.now.tables.now) }
+    ensures faults { OnOk result (faults.new.items ≡ faults.old.items ++ spec.part_faults scope.now tree.now) }
+    ensures row { IfOk result (λ row. row ≡ spec.part_row scope.now tree.now) }
 {
     match tree {
-        PartTree::Do(tree) => command(text, tables, tree, faults),
+        PartTree::Do(tree) => Ok(BodyItem::Do(command(scope, tree, faults)?)),
         PartTree::If {
             guard,
             then_body,
             else_body,
         } => {
-            cond(text, tables, guard, faults)?;
-            body(text, tables, then_body, faults)?;
-            otherwise(text, tables, else_body, faults)
+            let guard = cond(alloc, scope, guard, faults)?;
+            let then_body = body(alloc, scope, then_body, faults)?;
+            let else_body = otherwise(alloc, scope, else_body, faults)?;
+            Ok(BodyItem::If {
+                guard,
+                then_body,
+                else_body,
+            })
         }
     }
 }
 
 #[cycle(body)]
 fn otherwise(
-    text: &[u8],
-    tables: &Tables,
+    alloc: Global,
+    scope: &Scope<'_>,
     tree: &Option<BodyTree>,
     faults: &mut Vec<Fault>,
-) -> Result<(), OutOfMemory>
-    ensures { OnOk result (faults.new.items ≡ faults.old.items
-        ++ spec.else_faults (option_map (spec.body_faults text.now (knows tables.now) no_rules) tree.now)) }
+) -> Result<Option<Body>, OutOfMemory>
+    requires { AreLimited scope.now.counts (table_of scope.now.tables.now) }
+    ensures faults { OnOk result (faults.new.items ≡ faults.old.items ++ else_faults (option_map (spec.body_faults scope.now) tree.now)) }
+    ensures row { IfOk result (λ row. row ≡ option_map (spec.body_row scope.now) tree.now) }
 {
     match tree {
-        Some(tree) => body(text, tables, tree, faults),
-        None => Ok(()),
+        Some(tree) => Ok(Some(body(alloc, scope, tree, faults)?)),
+        None => Ok(None),
     }
 }

@@ -1,104 +1,132 @@
-//! Conditions: every name is declared, and every word is a test of its kind.
+//! Conditions: each name is declared, each word is a test of its kind, and both become a number.
 
-ghost use Rattle.std.specs.Prelude.{◌≡◌, ◌++◌, map, OnOk};
-ghost use Rattle.ssi_names.specs.Bodies as spec;
-ghost use Rattle.ssi_names.specs.Declarations.{no_rules};
+ghost use Rattle.std.specs.Prelude.{◌≡◌, ◌++◌, map, position, IfOk, IfSome, OnOk};
+ghost use Rattle.std.specs.Str.{bytes_eq};
+ghost use Rattle.ssi_identities.specs.Facts.{identity_of};
 ghost use Rattle.ssi_names.specs.Occurrences.{joined};
-ghost use Rattle.ssi_names.specs.Tables.{knows};
+ghost use Rattle.ssi_names.specs.Scopes as spec;
+ghost use Rattle.ssi_names.specs.Scopes.{AreLimited};
+ghost use Rattle.ssi_names.specs.Tables.{table_of};
+ghost use Rattle.ssi_names.specs.Words.{kind_of};
 
 use crate::code::{NO_PFM, NOT_IN_THIS_FILE, UNKNOWN, WRONG_WORD};
 use crate::fault::{Fault, note};
-use crate::tables::{Tables, is_known};
+use crate::scope::{Scope, UsedName, fact_said, look_up, number_of};
+use crate::tables::lacks_rule;
 use crate::text::characters;
-use crate::words::{fact_by_word, kind_by_name, lie_by_word};
+use crate::words::{fact_by_word, lie_by_word};
+use sqlite_items::Items;
 use ssi_base::OutOfMemory;
+use ssi_identities::{Cond, CondItem, FactKind};
 use ssi_terms::{CondTree, ItemTree, Spot};
+use std::alloc::Global;
 
-/// Notes the fault of a name in a condition or a command.
-pub fn used_name(
-    text: &[u8],
-    tables: &Tables,
-    name: &Spot,
-    faults: &mut Vec<Fault>,
-) -> Result<(), OutOfMemory>
-    ensures { OnOk result (faults.new.items ≡ faults.old.items
-        ++ spec.use_faults text.now (knows tables.now) no_rules name.now) }
+/// The test of a name: points are controlled to a lie or free to go to it, or a fact has a value.
+fn test_by(
+    scope: &Scope<'_>,
+    used: &UsedName<'_>,
+    said: Option<(FactKind, bool)>,
+    lie: Option<bool>,
+) -> CondItem
+    requires limited { AreLimited scope.now.counts (table_of scope.now.tables.now) }
+    requires kind { used.now.kind ≡ kind_of used.now.name.now }
+    requires place { used.now.place ≡ position (bytes_eq used.now.name.now) (table_of scope.now.tables.now used.now.kind) }
+    requires own { IfSome said (λ s. identity_of s.0 ≡ used.now.kind) }
+    ensures { result ≡ spec.test_by scope.now used.now.name.now (spec.said_of scope.now used.now.name.now said) lie }
 {
-    let called = characters(text, name);
-    let unknown = !is_known(tables, kind_by_name(called), called);
-    note(faults, name, &[(unknown, UNKNOWN)])
+    match lie {
+        Some(reverse) => CondItem::Free {
+            points: number_of(scope, used),
+            reverse,
+        },
+        None => {
+            let (fact, wanted) = fact_said(scope, used, said);
+            CondItem::Lit { fact, wanted }
+        }
+    }
 }
 
-/// Notes the fault of the word of a test.
-fn test_word(
-    text: &[u8],
-    tables: &Tables,
-    name: &[u8],
+/// The test of a name by a word. Notes its faults.
+#[tactic(auto, using(std::proofs::lemmas::List::append_assoc))]
+fn test(
+    scope: &Scope<'_>,
+    name: &Spot,
     word: &Spot,
     faults: &mut Vec<Fault>,
-) -> Result<(), OutOfMemory>
-    ensures { OnOk result (faults.new.items ≡ faults.old.items
-        ++ spec.test_word_faults text.now (knows tables.now) no_rules name.now word.now) }
+) -> Result<CondItem, OutOfMemory>
+    requires { AreLimited scope.now.counts (table_of scope.now.tables.now) }
+    ensures faults { OnOk result (faults.new.items ≡ faults.old.items ++ spec.test_faults scope.now name.now word.now) }
+    ensures row { IfOk result (λ row. row ≡ spec.test_row scope.now name.now word.now) }
 {
-    let kind = kind_by_name(name);
-    let said = characters(text, word);
-    // There are no entries of PFM yet, so no lie has a rule.
-    let free = lie_by_word(kind, said).is_some();
-    let wrong = !(fact_by_word(kind, said).is_some() || free);
-    let unruled = is_known(tables, kind, name) && free;
-    note(faults, word, &[(wrong, WRONG_WORD), (unruled, NO_PFM)])
+    let used = look_up(scope, name);
+    let letters = characters(scope.text, word);
+    let said = fact_by_word(used.kind, letters);
+    let lie = lie_by_word(used.kind, letters);
+    let unknown = used.place.is_none();
+    let wrong = said.is_none() && lie.is_none();
+    let unruled = !unknown && lacks_rule(scope.tables, used.name, lie);
+    note(faults, name, &[(unknown, UNKNOWN)])?;
+    note(faults, word, &[(wrong, WRONG_WORD), (unruled, NO_PFM)])?;
+    Ok(test_by(scope, &used, said, lie))
 }
 
 #[cycle(cond)]
-#[tactic(auto, using(std::proofs::lemmas::List::append_assoc))]
 fn item(
-    text: &[u8],
-    tables: &Tables,
+    alloc: Global,
+    scope: &Scope<'_>,
     tree: &ItemTree,
     faults: &mut Vec<Fault>,
-) -> Result<(), OutOfMemory>
-    ensures { OnOk result (faults.new.items ≡ faults.old.items
-        ++ spec.item_faults text.now (knows tables.now) no_rules tree.now) }
+) -> Result<CondItem, OutOfMemory>
+    requires { AreLimited scope.now.counts (table_of scope.now.tables.now) }
+    ensures faults { OnOk result (faults.new.items ≡ faults.old.items ++ spec.item_faults scope.now tree.now) }
+    ensures row { IfOk result (λ row. row ≡ spec.item_row scope.now tree.now) }
 {
     match tree {
-        ItemTree::Test { name, word } => {
-            used_name(text, tables, name, faults)?;
-            test_word(text, tables, characters(text, name), word, faults)
+        ItemTree::Test { name, word } => test(scope, name, word, faults),
+        ItemTree::Bit { number, word: _ } => {
+            note(faults, number, &[(true, NOT_IN_THIS_FILE)])?;
+            Ok(CondItem::Lit {
+                fact: 0,
+                wanted: false,
+            })
         }
-        ItemTree::Bit { number, word: _ } => note(faults, number, &[(true, NOT_IN_THIS_FILE)]),
-        ItemTree::Any(conds) => group(text, tables, conds.as_slice(), faults),
+        ItemTree::Any(conds) => Ok(CondItem::Any(group(alloc, scope, conds.as_slice(), faults)?)),
     }
 }
 
 #[cycle(cond)]
 fn group(
-    text: &[u8],
-    tables: &Tables,
+    alloc: Global,
+    scope: &Scope<'_>,
     conds: &[CondTree],
     faults: &mut Vec<Fault>,
-) -> Result<(), OutOfMemory>
-    ensures { OnOk result (faults.new.items ≡ faults.old.items
-        ++ joined (map (spec.cond_faults text.now (knows tables.now) no_rules) conds.now)) }
+) -> Result<Items<Cond>, OutOfMemory>
+    requires { AreLimited scope.now.counts (table_of scope.now.tables.now) }
+    ensures faults { OnOk result (faults.new.items ≡ faults.old.items ++ joined (map (spec.cond_faults scope.now) conds.now)) }
+    ensures rows { IfOk result (λ rows. rows ≡ map (spec.cond_row scope.now) conds.now) }
 {
+    let mut rows = Items::from_vec(Vec::with_capacity(alloc, conds.len())?);
     for tree in conds {
-        cond(text, tables, tree, faults)?;
+        rows.push(cond(alloc, scope, tree, faults)?)?;
     }
-    Ok(())
+    Ok(rows)
 }
 
-/// Notes the faults of a condition.
+/// The condition of a tree. Notes its faults.
 #[cycle(cond)]
 pub fn cond(
-    text: &[u8],
-    tables: &Tables,
+    alloc: Global,
+    scope: &Scope<'_>,
     tree: &CondTree,
     faults: &mut Vec<Fault>,
-) -> Result<(), OutOfMemory>
-    ensures { OnOk result (faults.new.items ≡ faults.old.items
-        ++ spec.cond_faults text.now (knows tables.now) no_rules tree.now) }
+) -> Result<Cond, OutOfMemory>
+    requires { AreLimited scope.now.counts (table_of scope.now.tables.now) }
+    ensures faults { OnOk result (faults.new.items ≡ faults.old.items ++ spec.cond_faults scope.now tree.now) }
+    ensures row { IfOk result (λ row. row ≡ spec.cond_row scope.now tree.now) }
 {
+    let mut items = Items::from_vec(Vec::with_capacity(alloc, tree.items.len())?);
     for part in tree.items.as_slice() {
-        item(text, tables, part, faults)?;
+        items.push(item(alloc, scope, part, faults)?)?;
     }
-    Ok(())
+    Ok(Cond { items })
 }

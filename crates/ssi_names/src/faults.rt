@@ -1,21 +1,31 @@
-//! Every fault of a source.
+//! Every fault of a source, and the rows of its requests.
 
-ghost use Rattle.std.specs.Prelude.{◌≡◌, IfOk};
-ghost use Rattle.ssi_names.specs.Declarations.{no_rules};
-ghost use Rattle.ssi_names.specs.Faults.{faults_by, faults_of, identity_faults as faults_of_identities};
-ghost use Rattle.ssi_names.specs.Tables.{AreTablesOf, knows, wires};
+ghost use Rattle.std.specs.Prelude.{◌≡◌, ◌≤◌, map, All, IfOk};
+ghost use Rattle.ssi_names.specs.declared.rule_file.RuleFile.TheVariants.{Requests};
+ghost use Rattle.ssi_names.specs.Faults.{faults_by, identity_faults as faults_of_identities};
+ghost use Rattle.ssi_names.specs.Scopes.{AreLimited, request_row};
+ghost use Rattle.ssi_names.specs.Tables.{knows, rules, table_of, wires};
 
 use crate::fault::Fault;
-use crate::members::{points, routes};
+use crate::identities::{flags, points, routes, signals, subs, tracks};
 use crate::modules::modules;
-use crate::names::{flags, signals, tracks};
 use crate::requests::requests;
+use crate::scope::Scope;
 use crate::source::SourceTree;
-use crate::subs::subs;
 use crate::tables::Tables;
 use ssi_base::OutOfMemory;
+use ssi_identities::RequestRow;
 use ssi_terms::IdentityTree;
 use std::alloc::Global;
+
+/// What is found of a source.
+#[derive(Drop)]
+pub struct Judged {
+    /// Its faults, in written order.
+    pub faults: Vec<Fault>,
+    /// The rows of its requests.
+    pub requests: Vec<RequestRow>,
+}
 
 /// The faults of the files of identities, by tables of names.
 #[tactic(auto, using(std::proofs::lemmas::List::append_assoc))]
@@ -34,35 +44,26 @@ fn identity_faults(
     tracks(alloc, text, tables, tree.tracks.as_slice(), &mut faults)?;
     routes(alloc, text, tables, tree.routes.as_slice(), &mut faults)?;
     subs(alloc, text, tables, tree.subs.as_slice(), &mut faults)?;
-    flags(alloc, text, tree.flags.as_slice(), &mut faults)?;
+    flags(alloc, text, tables, tree.flags.as_slice(), &mut faults)?;
     modules(alloc, text, tables, tree.modules.as_slice(), &mut faults)?;
     Ok(faults)
 }
 
-/// The faults of all files, by tables of names.
-fn faults_by_tables(
+/// Notes every fault of a source, and answers the rows of its requests.
+#[tactic(auto, using(std::proofs::lemmas::List::append_assoc))]
+pub fn judge_source(
     alloc: Global,
-    text: &[u8],
-    tables: &Tables,
+    scope: &Scope<'_>,
     tree: &SourceTree,
-) -> Result<Vec<Fault>, OutOfMemory>
-    ensures { IfOk result (λ faults.
-        faults.items ≡ faults_by text.now (knows tables.now) (wires tables.now) no_rules tree.now) }
+) -> Result<Judged, OutOfMemory>
+    requires limited { AreLimited scope.now.counts (table_of scope.now.tables.now) }
+    requires file { scope.now.file ≡ Requests }
+    requires short { All (λ entry. entry.0.len ≤ 16) tree.now.requests }
+    ensures faults { IfOk result (λ judged. judged.faults.items
+        ≡ faults_by scope.now.text.now (knows scope.now.tables.now) (wires scope.now.tables.now) (rules scope.now.tables.now) tree.now) }
+    ensures requests { IfOk result (λ judged. judged.requests.items ≡ map (request_row scope.now) tree.now.requests) }
 {
-    let mut faults = identity_faults(alloc, text, tables, &tree.identities)?;
-    requests(alloc, text, tables, tree.requests.entries.as_slice(), &mut faults)?;
-    Ok(faults)
-}
-
-/// Every fault of a source, by the tables of the tree.
-pub fn faults_of_tables(
-    alloc: Global,
-    text: &[u8],
-    tables: &Tables,
-    tree: &SourceTree,
-) -> Result<Vec<Fault>, OutOfMemory>
-    requires { AreTablesOf text.now tree.now tables.now }
-    ensures { IfOk result (λ faults. faults.items ≡ faults_of text.now tree.now) }
-{
-    faults_by_tables(alloc, text, tables, tree)
+    let mut faults = identity_faults(alloc, scope.text, scope.tables, &tree.identities)?;
+    let requests = requests(alloc, scope, tree.requests.entries.as_slice(), &mut faults)?;
+    Ok(Judged { faults, requests })
 }

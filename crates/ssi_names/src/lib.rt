@@ -8,23 +8,25 @@
 #![tactic(auto)]
 
 mod bodies;
-mod body_rows;
 mod code;
 mod conditions;
+mod declaration;
 mod fault;
 mod faults;
+mod identities;
 mod judge;
+mod limits;
 mod members;
 mod module_rows;
 mod modules;
 mod name_set;
 mod named;
-mod names;
 mod requests;
 mod resolving;
 mod rows;
+mod rule_file;
+mod scope;
 mod source;
-mod subs;
 mod tables;
 mod text;
 mod words;

@@ -1,34 +1,40 @@
-//! PTS and RTE: entries that name others.
+//! Names that an entry has behind its own: tracks under points, the signal and the sub-routes of a route, the
+//! track and the points of a sub-route.
 
 ghost use Rattle.std.specs.Prelude.{◌≡◌, ◌++◌, [], map, OnOk};
+ghost use Rattle.ssi_identities.specs.declared.fact.Kind.TheVariants.{Points};
 ghost use Rattle.ssi_names.specs.Faults as spec;
 ghost use Rattle.ssi_names.specs.NameLists.{set_of};
 ghost use Rattle.ssi_names.specs.Occurrences.{in_order};
-ghost use Rattle.ssi_names.specs.Tables.{knows, wires};
+ghost use Rattle.ssi_names.specs.Tables.{knows};
 ghost use Rattle.ssi_names.specs.Texts.{characters as characters_of};
 
-use crate::code::{NOT_WIRED, TOO_MANY, TWICE, UNKNOWN};
+use crate::code::{POINTS_TWICE_IN_SUBROUTE, TOO_MANY, UNKNOWN};
 use crate::fault::{Fault, note};
 use crate::judge::{Judge, judge_all};
+use crate::limits::MOST_POINTS_IN_A_SUB;
 use crate::name_set::NameSet;
 use crate::tables::{Tables, is_known};
 use crate::text::characters;
 use ssi_base::OutOfMemory;
 use ssi_identities::Kind;
-use ssi_terms::{PointsEntry, RouteEntry, Spot};
+use ssi_terms::Spot;
 use std::alloc::Global;
 
-/// How many points a layout has at most.
-const MOST_POINTS: usize = 126;
-
-/// How many tracks points lie over at most.
-const MOST_TRACKS_UNDER_POINTS: usize = 4;
-
-/// How many routes a layout has at most.
-const MOST_ROUTES: usize = 512;
-
-/// How many sub-routes a route has at most.
-const MOST_SUBS_IN_A_ROUTE: usize = 32;
+/// Notes the fault of a name that an entry refers to.
+pub fn reference(
+    text: &[u8],
+    tables: &Tables,
+    kind: Kind,
+    name: &Spot,
+    faults: &mut Vec<Fault>,
+) -> Result<(), OutOfMemory>
+    ensures { OnOk result (faults.new.items ≡ faults.old.items
+        ++ spec.reference_faults text.now (knows tables.now kind) name.now) }
+{
+    let unknown = !is_known(tables, kind, characters(text, name));
+    note(faults, name, &[(unknown, UNKNOWN)])
+}
 
 /// Judges the names of one kind in an entry, of which a limit says how many there may be.
 #[derive(Drop)]
@@ -58,7 +64,7 @@ impl<'a> Judge<Spot> for MemberJudge<'a> {
 }
 
 /// Notes the faults of the names of one kind in an entry.
-fn members(
+pub fn members(
     alloc: Global,
     text: &[u8],
     tables: &Tables,
@@ -79,140 +85,55 @@ fn members(
     judge_all(alloc, &mut judge, names, faults)
 }
 
-/// Notes the fault of a name that an entry refers to.
-pub fn reference(
-    text: &[u8],
-    tables: &Tables,
-    kind: Kind,
-    name: &Spot,
-    faults: &mut Vec<Fault>,
-) -> Result<(), OutOfMemory>
-    ensures { OnOk result (faults.new.items ≡ faults.old.items
-        ++ spec.reference_faults text.now (knows tables.now kind) name.now) }
-{
-    let unknown = !is_known(tables, kind, characters(text, name));
-    note(faults, name, &[(unknown, UNKNOWN)])
-}
-
-/// Judges an entry of PTS.
+/// Judges the points of a sub-route.
 #[derive(Drop)]
-struct PointsJudge<'a> {
+struct LieJudge<'a> {
     text: &'a [u8],
     tables: &'a Tables,
     seen: NameSet,
 }
 
-impl<'a> Judge<PointsEntry> for PointsJudge<'a> {
-    ghost faults_of = { λ j.
-        spec.points_faults j.text.now (knows j.tables.now) (wires j.tables.now) };
+impl<'a> Judge<(Spot, Spot)> for LieJudge<'a> {
+    ghost faults_of = { λ j. spec.lie_faults j.text.now (knows j.tables.now Points) };
 
     ghost is_after = { λ j earlier.
-        j.seen ≡ set_of (map (λ e. characters_of j.text.now e.name) earlier) };
+        j.seen ≡ set_of (map (λ e. characters_of j.text.now e.0) earlier) };
 
-    #[tactic(auto, using(crate::proofs::Sets::in_set, std::proofs::lemmas::List::append_assoc))]
+    #[tactic(auto, using(crate::proofs::Sets::in_set))]
     fn judge(
         &mut self,
         alloc: Global,
-        earlier: &[PointsEntry],
-        entry: &PointsEntry,
+        earlier: &[(Spot, Spot)],
+        entry: &(Spot, Spot),
         faults: &mut Vec<Fault>,
     ) -> Result<(), OutOfMemory> {
-        let name = characters(self.text, &entry.name);
+        let name = characters(self.text, &entry.0);
+        let unknown = !self.tables.points.contains(name);
         let again = self.seen.add(alloc, name)?;
-        let many = earlier.len() >= MOST_POINTS;
-        let unwired = !self.tables.wired.contains(name);
+        let many = earlier.len() >= MOST_POINTS_IN_A_SUB;
         note(
             faults,
-            &entry.name,
-            &[(again, TWICE), (many, TOO_MANY), (unwired, NOT_WIRED)],
-        )?;
-        members(
-            alloc,
-            self.text,
-            self.tables,
-            Kind::Track,
-            MOST_TRACKS_UNDER_POINTS,
-            entry.tracks.as_slice(),
-            faults,
+            &entry.0,
+            &[
+                (unknown, UNKNOWN),
+                (again, POINTS_TWICE_IN_SUBROUTE),
+                (many, TOO_MANY),
+            ],
         )
     }
 }
 
-/// Notes the faults of PTS.
-pub fn points(
+/// Notes the faults of the points of a sub-route.
+pub fn lies(
     alloc: Global,
     text: &[u8],
     tables: &Tables,
-    entries: &[PointsEntry],
+    entries: &[(Spot, Spot)],
     faults: &mut Vec<Fault>,
 ) -> Result<(), OutOfMemory>
     ensures { OnOk result (faults.new.items ≡ faults.old.items
-        ++ in_order (spec.points_faults text.now (knows tables.now) (wires tables.now))
-        [] entries.now) }
+        ++ in_order (spec.lie_faults text.now (knows tables.now Points)) [] entries.now) }
 {
     let seen = NameSet::new(alloc);
-    judge_all(
-        alloc,
-        &mut PointsJudge { text, tables, seen },
-        entries,
-        faults,
-    )
-}
-
-/// Judges an entry of RTE.
-#[derive(Drop)]
-struct RouteJudge<'a> {
-    text: &'a [u8],
-    tables: &'a Tables,
-    seen: NameSet,
-}
-
-impl<'a> Judge<RouteEntry> for RouteJudge<'a> {
-    ghost faults_of = { λ j. spec.route_faults j.text.now (knows j.tables.now) };
-
-    ghost is_after = { λ j earlier.
-        j.seen ≡ set_of (map (λ e. characters_of j.text.now e.name) earlier) };
-
-    #[tactic(auto, using(crate::proofs::Sets::in_set, std::proofs::lemmas::List::append_assoc))]
-    fn judge(
-        &mut self,
-        alloc: Global,
-        earlier: &[RouteEntry],
-        entry: &RouteEntry,
-        faults: &mut Vec<Fault>,
-    ) -> Result<(), OutOfMemory> {
-        let again = self.seen.add(alloc, characters(self.text, &entry.name))?;
-        let many = earlier.len() >= MOST_ROUTES;
-        note(faults, &entry.name, &[(again, TWICE), (many, TOO_MANY)])?;
-        reference(self.text, self.tables, Kind::Signal, &entry.signal, faults)?;
-        members(
-            alloc,
-            self.text,
-            self.tables,
-            Kind::Subroute,
-            MOST_SUBS_IN_A_ROUTE,
-            entry.subs.as_slice(),
-            faults,
-        )
-    }
-}
-
-/// Notes the faults of RTE.
-pub fn routes(
-    alloc: Global,
-    text: &[u8],
-    tables: &Tables,
-    entries: &[RouteEntry],
-    faults: &mut Vec<Fault>,
-) -> Result<(), OutOfMemory>
-    ensures { OnOk result (faults.new.items ≡ faults.old.items
-        ++ in_order (spec.route_faults text.now (knows tables.now)) [] entries.now) }
-{
-    let seen = NameSet::new(alloc);
-    judge_all(
-        alloc,
-        &mut RouteJudge { text, tables, seen },
-        entries,
-        faults,
-    )
+    judge_all(alloc, &mut LieJudge { text, tables, seen }, entries, faults)
 }

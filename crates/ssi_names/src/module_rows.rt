@@ -1,14 +1,13 @@
 //! Trackside modules with numbers of identities.
 
-ghost use Rattle.std.specs.Prelude.{◌≡◌, ◌≤◌, ◌<◌, All, Some, length, map, replicate, None, slice_set, IfOk};
+ghost use Rattle.std.specs.Prelude.{◌≡◌, ◌≤◌, ◌<◌, Some, length, replicate, None, slice_set, IfOk};
 ghost use Rattle.ssi_names.specs.Faults.{count_of_pins, kind_at_pins};
 ghost use Rattle.ssi_names.specs.ModuleRows as spec;
-ghost use Rattle.ssi_names.specs.Tables.{table_of, IsSmall};
 ghost use Rattle.ssi_names.specs.Texts.{number as number_at};
 
 use crate::modules::pins_by_kind;
 use crate::name_set::NameSet;
-use crate::rows::number;
+use crate::rows::{RowOf, number};
 use crate::tables::{Tables, table};
 use crate::text::{characters, small_number};
 use ssi_base::OutOfMemory;
@@ -70,48 +69,26 @@ fn number_of_kind(word: &[u8]) -> u8
     }
 }
 
-fn module_row(
-    alloc: Global,
-    text: &[u8],
-    tables: &Tables,
-    entry: &ModuleEntry,
-) -> Result<ModuleRow, OutOfMemory>
-    requires address { number_at text.now entry.now.address < 64 }
-    requires small { IsSmall tables.now }
-    ensures { IfOk result (λ row. row ≡ spec.module_row text.now (table_of tables.now) entry.now) }
-{
-    let word = characters(text, &entry.kind);
-    let (kind, count) = pins_by_kind(word);
-    Ok(ModuleRow {
-        address: small_number(text, &entry.address),
-        kind: number_of_kind(word),
-        pins: pins_row(
-            alloc,
-            text,
-            table(tables, kind),
-            count,
-            entry.pins.as_slice(),
-        )?,
-        outputs: no_outputs(alloc)?,
-        input: None,
-    })
-}
+impl RowOf<ModuleEntry> for ModuleRow {
+    ghost row_of = { spec.module_row };
 
-/// The modules of TFM.
-pub fn module_rows(
-    alloc: Global,
-    text: &[u8],
-    tables: &Tables,
-    entries: &[ModuleEntry],
-) -> Result<Vec<ModuleRow>, OutOfMemory>
-    requires addresses { All (λ entry. number_at text.now entry.address < 64) entries.now }
-    requires small { IsSmall tables.now }
-    ensures { IfOk result (λ rows.
-        rows.items ≡ map (spec.module_row text.now (table_of tables.now)) entries.now) }
-{
-    let mut rows = Vec::with_capacity(alloc, entries.len())?;
-    for entry in entries {
-        rows.push(module_row(alloc, text, tables, entry)?)?;
+    ghost is_fit = { λ text entry. number_at text entry.address < 64 };
+
+    fn row(
+        alloc: Global,
+        text: &[u8],
+        tables: &Tables,
+        entry: &ModuleEntry,
+    ) -> Result<ModuleRow, OutOfMemory> {
+        let word = characters(text, &entry.kind);
+        let (kind, count) = pins_by_kind(word);
+        let names = table(tables, kind);
+        Ok(ModuleRow {
+            address: small_number(text, &entry.address),
+            kind: number_of_kind(word),
+            pins: pins_row(alloc, text, names, count, entry.pins.as_slice())?,
+            outputs: no_outputs(alloc)?,
+            input: None,
+        })
     }
-    Ok(rows)
 }

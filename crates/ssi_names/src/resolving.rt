@@ -1,19 +1,22 @@
 //! The data set of a text, or every fault of its names, words and numbers.
 
-ghost use Rattle.std.specs.Prelude.{◌≡◌, []};
+ghost use Rattle.std.specs.Prelude.{◌≡◌, [], map};
 ghost use Rattle.ssi_names.specs.Answers.{IsAnswer};
 ghost use Rattle.ssi_names.specs.Formed.{IsFormed};
 ghost use Rattle.ssi_names.specs.Faults.{faults_of};
 ghost use Rattle.ssi_names.specs.Spelled.{IsSpelledIn};
-ghost use Rattle.ssi_names.specs.Tables.{AreTablesOf};
+ghost use Rattle.ssi_names.specs.Rows.{request_row};
+ghost use Rattle.ssi_names.specs.Tables.{AreTablesOf, table_of};
 
 use crate::fault::{FaultList, ResolveFault};
-use crate::faults::faults_of_tables;
+use crate::faults::{Judged, judge_source};
 use crate::rows::data_set;
+use crate::rule_file::RuleFile;
+use crate::scope::Scope;
 use crate::source::SourceTree;
-use crate::tables::{Tables, tables_of};
+use crate::tables::{Tables, counts_within, tables_of};
 use ssi_base::OutOfMemory;
-use ssi_identities::DataSet;
+use ssi_identities::{DataSet, RequestRow};
 use std::alloc::Global;
 
 /// The data set of a text without faults.
@@ -22,15 +25,46 @@ fn accept(
     text: &[u8],
     tables: &Tables,
     tree: &SourceTree,
+    requests: Vec<RequestRow>,
 ) -> Result<DataSet, ResolveFault>
     requires tables { AreTablesOf text.now tree.now tables.now }
     requires formed { IsFormed text.now tree.now }
     requires fine { faults_of text.now tree.now ≡ [] }
+    requires requests { requests.items ≡ map (request_row text.now (table_of tables.now)) tree.now.requests }
     ensures { IsAnswer text.now tree.now result }
 {
-    match data_set(alloc, text, tables, tree) {
+    match data_set(alloc, text, tables, tree, requests) {
         Ok(plan) => Ok(plan),
         Err(OutOfMemory) => Err(ResolveFault::Memory),
+    }
+}
+
+/// The same by the tables of the tree.
+fn resolve_by(
+    alloc: Global,
+    text: &[u8],
+    tables: &Tables,
+    tree: &SourceTree,
+) -> Result<DataSet, ResolveFault>
+    requires tables { AreTablesOf text.now tree.now tables.now }
+    requires formed { IsFormed text.now tree.now }
+    ensures { IsAnswer text.now tree.now result }
+{
+    let counts = counts_within(tables);
+    let file = RuleFile::Requests;
+    let scope = Scope {
+        text,
+        tables,
+        counts,
+        file,
+    };
+    let Ok(Judged { faults, requests }) = judge_source(alloc, &scope, tree) else {
+        return Err(ResolveFault::Memory);
+    };
+    if faults.is_empty() {
+        accept(alloc, text, tables, tree, requests)
+    } else {
+        Err(ResolveFault::Faults(FaultList { items: faults }))
     }
 }
 
@@ -39,15 +73,8 @@ pub fn resolve(alloc: Global, text: &[u8], tree: &SourceTree) -> Result<DataSet,
     requires { IsSpelledIn text.now tree.now }
     ensures { IsAnswer text.now tree.now result }
 {
-    let Ok(tables) = tables_of(alloc, text, tree) else {
-        return Err(ResolveFault::Memory);
-    };
-    let Ok(items) = faults_of_tables(alloc, text, &tables, tree) else {
-        return Err(ResolveFault::Memory);
-    };
-    if items.is_empty() {
-        accept(alloc, text, &tables, tree)
-    } else {
-        Err(ResolveFault::Faults(FaultList { items }))
+    match tables_of(alloc, text, tree) {
+        Ok(tables) => resolve_by(alloc, text, &tables, tree),
+        Err(OutOfMemory) => Err(ResolveFault::Memory),
     }
 }

@@ -1,18 +1,25 @@
 //! Tables of the names that a text declares, and of those that its modules name.
 
-ghost use Rattle.std.specs.Prelude.{◌≡◌, fold, map, IfOk, OnOk};
+ghost use Rattle.std.specs.Prelude.{◌≡◌, fold, map, None, IfOk, OnOk};
+ghost use Rattle.ssi_identities.specs.Facts.{IsWithinLimits};
+ghost use Rattle.ssi_names.specs.Bodies.{lacks_rule as lacks_rule_of};
 ghost use Rattle.ssi_names.specs.Declarations.{pins_of, names_at};
-ghost use Rattle.ssi_names.specs.NameLists.{with_name, set_of};
-ghost use Rattle.ssi_names.specs.Tables.{AreTablesOf, knows, table_of};
+ghost use Rattle.ssi_names.specs.NameLists.{with_name};
+ghost use Rattle.ssi_names.specs.Rows.{counts_by};
+ghost use Rattle.ssi_names.specs.Scopes.{AreLimited};
+ghost use Rattle.ssi_names.specs.Tables.{AreTablesOf, knows, no_tables, rules, table_of, tables_of_identities};
 ghost use Rattle.ssi_names.specs.Texts.{characters as characters_of};
 
+use crate::limits::{
+    MOST_FLAGS, MOST_POINTS, MOST_REQUESTS, MOST_ROUTES, MOST_SIGNALS, MOST_SUBS, MOST_TRACKS,
+};
 use crate::name_set::NameSet;
 use crate::named::Named;
 use crate::source::SourceTree;
 use crate::text::characters;
 use ssi_base::OutOfMemory;
-use ssi_identities::Kind;
-use ssi_terms::{BodyTree, IdentityTree, ModuleEntry, Spot};
+use ssi_identities::{Counts, Kind};
+use ssi_terms::{IdentityTree, ModuleEntry, Spot};
 use std::alloc::Global;
 
 /// The names of each kind that are declared, and the names that modules have at their pins.
@@ -25,7 +32,12 @@ pub struct Tables {
     pub subs: NameSet,
     pub flags: NameSet,
     pub requests: NameSet,
+    /// The names at pins.
     pub wired: NameSet,
+    /// Points for which a rule says when they are free to go to normal.
+    pub free_normal: NameSet,
+    /// Points for which a rule says when they are free to go to reverse.
+    pub free_reverse: NameSet,
 }
 
 /// The names of a kind.
@@ -50,107 +62,120 @@ pub fn is_known(tables: &Tables, kind: Kind, name: &[u8]) -> bool
     table(tables, kind).contains(name)
 }
 
+/// Whether a test asks for a lie of points, and no rule says when they are free to go to it.
+pub fn lacks_rule(tables: &Tables, name: &[u8], lie: Option<bool>) -> bool
+    ensures { result ≡ lacks_rule_of (rules tables.now name.now) lie }
+{
+    match lie {
+        Some(true) => !tables.free_reverse.contains(name),
+        Some(false) => !tables.free_normal.contains(name),
+        None => false,
+    }
+}
+
+/// How many names of each kind there are; nothing where there are more of a kind than a layout may have.
+pub fn counts_within(tables: &Tables) -> Option<Counts>
+    ensures limited { AreLimited result (table_of tables.now) }
+    ensures past { result ≡ None → ¬ IsWithinLimits (counts_by (table_of tables.now)) }
+{
+    let few = tables.points.len() <= MOST_POINTS
+        && tables.signals.len() <= MOST_SIGNALS
+        && tables.tracks.len() <= MOST_TRACKS
+        && tables.routes.len() <= MOST_ROUTES
+        && tables.subs.len() <= MOST_SUBS
+        && tables.flags.len() <= MOST_FLAGS
+        && tables.requests.len() <= MOST_REQUESTS;
+    if !few {
+        return None;
+    }
+    Some(Counts {
+        points: tables.points.len() as u16,
+        signals: tables.signals.len() as u16,
+        tracks: tables.tracks.len() as u16,
+        routes: tables.routes.len() as u16,
+        subs: tables.subs.len() as u16,
+        flags: tables.flags.len() as u16,
+        requests: tables.requests.len() as u16,
+    })
+}
+
+/// Tables with no names.
+fn no_names(alloc: Global) -> Tables
+    ensures { result ≡ no_tables }
+{
+    Tables {
+        points: NameSet::new(alloc),
+        signals: NameSet::new(alloc),
+        tracks: NameSet::new(alloc),
+        routes: NameSet::new(alloc),
+        subs: NameSet::new(alloc),
+        flags: NameSet::new(alloc),
+        requests: NameSet::new(alloc),
+        wired: NameSet::new(alloc),
+        free_normal: NameSet::new(alloc),
+        free_reverse: NameSet::new(alloc),
+    }
+}
+
 /// The tables of a tree.
 pub fn tables_of(alloc: Global, text: &[u8], tree: &SourceTree) -> Result<Tables, OutOfMemory>
     ensures { IfOk result (AreTablesOf text.now tree.now) }
 {
-    tables_of_files(alloc, text, &tree.identities, tree.requests.entries.as_slice())
+    let mut tables = no_names(alloc);
+    add_identities(alloc, text, &mut tables, &tree.identities)?;
+    add_names(alloc, text, &mut tables.requests, tree.requests.entries.as_slice())?;
+    Ok(tables)
 }
 
-/// The tables of the files of identities and of PRR.
-fn tables_of_files(
+/// Adds the names that the files of identities declare, and those at pins.
+fn add_identities(
     alloc: Global,
     text: &[u8],
+    tables: &mut Tables,
     tree: &IdentityTree,
-    requests: &[(Spot, BodyTree)],
-) -> Result<Tables, OutOfMemory>
-    ensures { IfOk result (AreTablesOf text.now
-        (record { identities = tree.now; requests = requests.now })) }
+) -> Result<(), OutOfMemory>
+    requires { tables.old ≡ no_tables }
+    ensures { OnOk result (tables.new ≡ tables_of_identities text.now tree.now) }
 {
-    let routes = both_names(alloc, text, tree.points.as_slice(), tree.routes.as_slice())?;
-    let tracks = both_names(alloc, text, tree.signals.as_slice(), tree.tracks.as_slice())?;
-    let flags = both_names(alloc, text, tree.subs.as_slice(), tree.flags.as_slice())?;
-    let requests = declared_names(alloc, text, requests)?;
-    let wired = wired_names(alloc, text, tree.modules.as_slice())?;
-    Ok(tables_by(routes, tracks, flags, requests, wired))
+    add_names(alloc, text, &mut tables.points, tree.points.as_slice())?;
+    add_names(alloc, text, &mut tables.signals, tree.signals.as_slice())?;
+    add_names(alloc, text, &mut tables.tracks, tree.tracks.as_slice())?;
+    add_names(alloc, text, &mut tables.routes, tree.routes.as_slice())?;
+    add_names(alloc, text, &mut tables.subs, tree.subs.as_slice())?;
+    add_names(alloc, text, &mut tables.flags, tree.flags.as_slice())?;
+    add_wired(alloc, text, &mut tables.wired, tree.modules.as_slice())?;
+    Ok(())
 }
 
-/// Tables of these names: of points and routes, of signals and tracks, and of sub-routes and flags.
-fn tables_by(
-    routes: (NameSet, NameSet),
-    tracks: (NameSet, NameSet),
-    flags: (NameSet, NameSet),
-    requests: NameSet,
-    wired: NameSet,
-) -> Tables
-    ensures { result ≡ record {
-      points = routes.0;
-      signals = tracks.0;
-      tracks = tracks.1;
-      routes = routes.1;
-      subs = flags.0;
-      flags = flags.1;
-      requests = requests;
-      wired = wired;
-    } }
-{
-    let (points, routes) = routes;
-    let (signals, tracks) = tracks;
-    let (subs, flags) = flags;
-    Tables {
-        points,
-        signals,
-        tracks,
-        routes,
-        subs,
-        flags,
-        requests,
-        wired,
-    }
-}
-
-/// The names that entries of two files declare.
-fn both_names<X: Named, Y: Named>(
+/// Adds the names that entries declare.
+fn add_names<X: Named>(
     alloc: Global,
     text: &[u8],
-    first: &[X],
-    second: &[Y],
-) -> Result<(NameSet, NameSet), OutOfMemory>
-    ensures first { IfOk result (λ names.
-        names.0 ≡ set_of (map (λ entry. characters_of text.now (X.name_of entry)) first.now)) }
-    ensures second { IfOk result (λ names.
-        names.1 ≡ set_of (map (λ entry. characters_of text.now (Y.name_of entry)) second.now)) }
-{
-    let first_names = declared_names(alloc, text, first)?;
-    let second_names = declared_names(alloc, text, second)?;
-    Ok((first_names, second_names))
-}
-
-/// The names that entries declare.
-fn declared_names<X: Named>(
-    alloc: Global,
-    text: &[u8],
+    names: &mut NameSet,
     entries: &[X],
-) -> Result<NameSet, OutOfMemory>
-    ensures { IfOk result (λ names.
-        names ≡ set_of (map (λ entry. characters_of text.now (X.name_of entry)) entries.now)) }
+) -> Result<(), OutOfMemory>
+    ensures { OnOk result (names.new
+        ≡ fold with_name names.old (map (λ entry. characters_of text.now (X.name_of entry)) entries.now)) }
 {
-    let mut names = NameSet::new(alloc);
     for entry in entries {
         names.add(alloc, characters(text, &entry.name()))?;
     }
-    Ok(names)
+    Ok(())
 }
 
-/// The names that modules have at their pins.
-fn wired_names(alloc: Global, text: &[u8], modules: &[ModuleEntry]) -> Result<NameSet, OutOfMemory>
-    ensures { IfOk result (λ names. names ≡ set_of (names_at text.now (pins_of modules.now))) }
+/// Adds the names that modules have at their pins.
+fn add_wired(
+    alloc: Global,
+    text: &[u8],
+    names: &mut NameSet,
+    modules: &[ModuleEntry],
+) -> Result<(), OutOfMemory>
+    ensures { OnOk result (names.new ≡ fold with_name names.old (names_at text.now (pins_of modules.now))) }
 {
-    let mut names = NameSet::new(alloc);
     for entry in modules {
-        add_pins(alloc, text, &mut names, entry.pins.as_slice())?;
+        add_pins(alloc, text, names, entry.pins.as_slice())?;
     }
-    Ok(names)
+    Ok(())
 }
 
 /// Adds the names at the pins of a module.

@@ -1,40 +1,25 @@
 //! Kinds by letters, and facts by words.
 
-ghost use Rattle.std.specs.Prelude.{◌≡◌, ◌∷◌, []};
+ghost use Rattle.std.specs.Prelude.{◌≡◌, IfSome};
 ghost use Rattle.ssi_identities.specs.declared.fact.Kind.TheVariants.{Points};
-ghost use Rattle.ssi_lexer.specs.TokenTests.{begins_with};
+ghost use Rattle.ssi_identities.specs.Facts.{identity_of};
 ghost use Rattle.ssi_names.specs.Words as spec;
 
+use crate::rule_file::RuleFile;
 use ssi_identities::{FactKind, Kind};
-
-/// Whether a name of two characters at least begins with the letter.
-fn begins(name: &[u8], letter: u8) -> bool
-    ensures { result ≡ begins_with (letter ∷ []) name.now }
-{
-    match name {
-        [first, _, ..] => letter == *first,
-        _ => false,
-    }
-}
 
 /// The kind of identity that a name is of, by its first letter.
 pub fn kind_by_name(name: &[u8]) -> Kind
     ensures { result ≡ spec.kind_of name.now }
 {
-    if begins(name, b'P') {
-        Kind::Points
-    } else if begins(name, b'S') {
-        Kind::Signal
-    } else if begins(name, b'T') {
-        Kind::Track
-    } else if begins(name, b'R') {
-        Kind::Route
-    } else if begins(name, b'U') {
-        Kind::Subroute
-    } else if begins(name, b'L') {
-        Kind::Flag
-    } else {
-        Kind::Request
+    match name {
+        [b'P', _, ..] => Kind::Points,
+        [b'S', _, ..] => Kind::Signal,
+        [b'T', _, ..] => Kind::Track,
+        [b'R', _, ..] => Kind::Route,
+        [b'U', _, ..] => Kind::Subroute,
+        [b'L', _, ..] => Kind::Flag,
+        _ => Kind::Request,
     }
 }
 
@@ -55,7 +40,8 @@ fn said(word: &[u8], facts: &[FactKind]) -> Option<(FactKind, bool)>
 
 /// The fact of an identity of the kind that a word says, and whether it says that the fact is true.
 pub fn fact_by_word(kind: Kind, word: &[u8]) -> Option<(FactKind, bool)>
-    ensures { result ≡ spec.fact_of_word kind word.now }
+    ensures said { result ≡ spec.fact_of_word kind word.now }
+    ensures own { IfSome result (λ said. identity_of said.0 ≡ kind) }
 {
     match kind {
         Kind::Points => said(
@@ -97,12 +83,14 @@ fn lie_of_points(word: &[u8]) -> Option<bool>
     }
 }
 
-/// Whether requests may command what a word says.
-pub fn may_request(said: Option<(FactKind, bool)>) -> bool
-    ensures { result ≡ spec.may_request said }
+/// Whether the bodies of a file may command what a word says.
+pub fn may_command(file: RuleFile, said: Option<(FactKind, bool)>) -> bool
+    ensures { result ≡ spec.may_command file said }
 {
     match said {
-        Some((fact, _)) => is_fact_of_requests(fact),
+        Some((fact, _)) => match file {
+            RuleFile::Requests => is_fact_of_requests(fact),
+        },
         None => false,
     }
 }

@@ -11,26 +11,14 @@ use Rattle.std.proofs.lemmas.Option.{get_or_from_slice_get}
 use Rattle.ssi_identities.specs.declared.fact.Counts.{Counts}
 use Rattle.ssi_identities.specs.declared.fact.FactKind.{FactKind}
 use Rattle.ssi_identities.specs.declared.fact.FactKind.TheVariants.{Reverse}
-use Rattle.ssi_identities.specs.DataSets.{Plan, IsCountable, counts_of}
-use Rattle.ssi_identities.specs.Facts.{Fact, IsWithinLimits, count_of, fact_count_of, fact_number_of, facts_of, number_of_fact}
+use Rattle.ssi_identities.specs.DataSets.{Plan, counts_of}
+use Rattle.ssi_identities.specs.Facts.{Fact, count_of, fact_count_of, fact_number_of, facts_of, number_of_fact}
 use Rattle.ssi_identities.specs.States.{State}
 use Rattle.ssi_identities.proofs.FactOrder.{all_facts, in_order}
 use Rattle.ssi_identities.proofs.Numbering.{in_numbers}
 use Rattle.ssi_run.specs.Traces.{change_of, change_text, changes_of, fact_at, fact_text}
 
 -- ---- facts by number
-
--- a data set within the limits has short lists
-pub countable : (plan : Plan) → IsWithinLimits (counts_of plan) → IsCountable plan
-countable plan limits = record {
-  points = omega (arith, limits.points);
-  signals = omega (arith, limits.signals);
-  tracks = omega (arith, limits.tracks);
-  routes = omega (arith, limits.routes);
-  subs = omega (arith, limits.subs);
-  flags = omega (arith, limits.flags);
-  requests = omega (arith, limits.requests);
-}
 
 -- a fact stands at its number
 pub fact_is : (counts : Counts) (kind : FactKind) (index number : ℕ) → index < count_of counts kind → fact_number_of counts kind index ≡ number

@@ -1,6 +1,5 @@
 -- What a function answers that finds a value, or finds that there is none.
-use Rattle.std.specs.Prelude.{◌≡◌, List, Option, Some, None, Result, Ok, Err, Vec}
-use Rattle.std.specs.declared.alloc.Global.{Global}
+use Rattle.std.specs.Prelude.{◌≡◌, Option, Some, None, Result, Ok, Err}
 use Rattle.ssi_run.specs.declared.refusal.Refusal.{Refusal}
 use Rattle.ssi_run.specs.declared.refusal.Refusal.TheVariants.{Later, Memory}
 
@@ -9,9 +8,3 @@ abbrev pub Finds : {A : Type 0} → Option A → Result A Refusal → Type 0
 Finds value (Ok found) = value ≡ Some found
 Finds value (Err Later) = value ≡ None
 Finds value (Err Memory) = Unit {0}
-
--- the same of a list
-abbrev pub FindsAll : {A : Type 0} → Option (List A) → Result (Vec A Global) Refusal → Type 0
-FindsAll values (Ok found) = values ≡ Some found.items
-FindsAll values (Err Later) = values ≡ None
-FindsAll values (Err Memory) = Unit {0}

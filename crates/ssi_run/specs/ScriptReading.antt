@@ -5,6 +5,7 @@ use Rattle.ssi_lexer.specs.declared.token.TokenKind.TheVariants.{Name}
 use Rattle.ssi_lexer.specs.Lexemes.{Lexeme}
 use Rattle.ssi_lexer.specs.TokenTests.{of_kind, word, name, dot}
 use Rattle.ssi_lexer.specs.Parsers.{Parser, ◌&◌, mapped, tok, valued, either, number_at}
+use Rattle.ssi_terms.specs.Tests.{spot_at}
 use Rattle.ssi_run.specs.declared.script.StepTree.{StepTree}
 use Rattle.ssi_run.specs.declared.script.StepTree.TheVariants.{Panel, Cycle}
 
@@ -21,7 +22,7 @@ abbrev pub count_at : Lexeme → Option ℕ
 count_at lexeme = only_if (nat_lt 0) (number_at lexeme)
 
 unfoldable pub put : Parser StepTree
-put = mapped (λ x. Panel x.1.0 x.1.1.0) (tok (word (codes "panel")) & (valued panel_at & (tok (of_kind Name) & tok dot)))
+put = mapped (λ x. Panel x.1.0 (spot_at x.1.1.0)) (tok (word (codes "panel")) & (valued panel_at & (tok (of_kind Name) & tok dot)))
 
 unfoldable pub cycles : Parser StepTree
 cycles = mapped (λ x. Cycle x.1.0) (tok (word (codes "cycle")) & (valued count_at & tok dot))

@@ -1,21 +1,19 @@
 -- The script: which tokens spell which steps, and which requests they name.
-use Rattle.std.specs.Prelude.{◌≡◌, ℕ, ◌≤◌, codes, map, take, drop, List, [], ◌∷◌, Option, Some, None, option_map}
+use Rattle.std.specs.Prelude.{◌≡◌, ℕ, ◌≤◌, codes, map, List, [], ◌∷◌, Option, Some, None, option_map}
 use Rattle.ssi_lexer.specs.declared.token.TextEnd.{TextEnd}
 use Rattle.ssi_lexer.specs.declared.token.TextEnd.TheVariants.{Finished, Faulty}
 use Rattle.ssi_lexer.specs.declared.token.TokenKind.TheVariants.{Name}
-use Rattle.ssi_lexer.specs.Lexemes.{Lexeme, token_of}
+use Rattle.ssi_lexer.specs.Lexemes.{Lexeme}
 use Rattle.ssi_lexer.specs.TokenTests.{Is, of_kind, word, name, number, dot}
 use Rattle.ssi_lexer.specs.Languages.{Repeated}
 use Rattle.ssi_identities.specs.NameLists.{number_of}
+use Rattle.ssi_terms.specs.Tests.{spot_of}
+use Rattle.ssi_names.specs.Texts.{characters}
 use Rattle.ssi_run.specs.declared.script.StepTree.{StepTree}
 use Rattle.ssi_run.specs.declared.script.StepTree.TheVariants as tree
 use Rattle.ssi_run.specs.declared.script.ScriptStep.{ScriptStep}
 use Rattle.ssi_run.specs.declared.script.ScriptStep.TheVariants as step
 use Rattle.ssi_run.specs.Traces.{cycles_in}
-
--- so many bytes of the text from one on
-abbrev pub characters_at : List ℕ → ℕ → ℕ → List ℕ
-characters_at text start len = take len (drop start text)
 
 -- all of them; nothing where one is missing
 abbrev pub all_of : {X : Type 0} → List (Option X) → Option (List X)
@@ -27,13 +25,13 @@ all_of (Some x ∷ others) = option_map (λ xs. x ∷ xs) (all_of others)
 -- There is panel 0 alone, and at least one minor cycle is made.
 pub data SpellsStep : StepTree → List Lexeme → Type 0 where
   a_put : (w p q d : Lexeme) (panel : ℕ) → Is (word (codes "panel")) w → panel ≡ 0 → Is (number panel) p → Is (of_kind Name) q → Is dot d
-      → SpellsStep (tree.Panel panel (token_of q)) (w ∷ p ∷ q ∷ d ∷ [])
+      → SpellsStep (tree.Panel panel (spot_of q)) (w ∷ p ∷ q ∷ d ∷ [])
   some_cycles : (w n d : Lexeme) (count : ℕ) → Is (word (codes "cycle")) w → 1 ≤ count → Is (number count) n → Is dot d
       → SpellsStep (tree.Cycle count) (w ∷ n ∷ d ∷ [])
 
 -- the step with the number of the request that it names; none where no such request is declared
 abbrev pub step_of : List ℕ → List (List ℕ) → StepTree → Option ScriptStep
-step_of text requests (tree.Panel panel request) = option_map (λ found. step.Panel panel found) (number_of requests (characters_at text request.start request.len))
+step_of text requests (tree.Panel panel request) = option_map (λ found. step.Panel panel found) (number_of requests (characters text request))
 step_of text requests (tree.Cycle count) = Some (step.Cycle count)
 
 -- the text ends with no fault

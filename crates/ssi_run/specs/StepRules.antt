@@ -16,6 +16,7 @@ use Rattle.ssi_lexer.proofs.Numbers.{number_is, is_number_at}
 use Rattle.ssi_lexer.proofs.Joining.{Both, both, good_both, good_mapped, good_as}
 use Rattle.ssi_lexer.proofs.Choosing.{OneOf, the_one, the_other, good_either}
 use Rattle.ssi_lexer.proofs.Starting.{some_token, some_word, other_word, lacks_after, good_dot}
+use Rattle.ssi_terms.specs.Tests.{spot_at, spot_of}
 use Rattle.ssi_run.specs.declared.script.StepTree.{StepTree}
 use Rattle.ssi_run.specs.declared.script.StepTree.TheVariants.{Panel, Cycle}
 use Rattle.ssi_run.specs.Scripts.{SpellsStep, a_put, some_cycles}
@@ -85,10 +86,10 @@ PutText = Both Token (ℕ × (Token × Token)) (One is_panel_word) FromPanel
 
 -- a step that is a put
 data APut : StepTree → List Lexeme → Type 0 where
-  the_put : (w p q d : Lexeme) (panel : ℕ) → Is is_panel_word w → panel ≡ 0 → Is (number panel) p → Is (of_kind k.Name) q → Is dot d → APut (Panel panel (token_of q)) (w ∷ p ∷ q ∷ d ∷ [])
+  the_put : (w p q d : Lexeme) (panel : ℕ) → Is is_panel_word w → panel ≡ 0 → Is (number panel) p → Is (of_kind k.Name) q → Is dot d → APut (Panel panel (spot_of q)) (w ∷ p ∷ q ∷ d ∷ [])
 
 abbrev put_of : Token × (ℕ × (Token × Token)) → StepTree
-put_of x = Panel x.1.0 x.1.1.0
+put_of x = Panel x.1.0 (spot_at x.1.1.0)
 
 to_put : (x : Token × (ℕ × (Token × Token))) (u : List Lexeme) → PutText x u → APut (put_of x) u
 to_put x u (both a b v v2 (one w e) (both c y z z2 (a_value p panel h) (both s t l l2 (one q m) (one d n)))) =
@@ -157,7 +158,7 @@ to_step x u (the_one y v (the_put w p q d panel e zero h m n)) = a_put w p q d p
 to_step x u (the_other y v (the_cycles w n d count e some h m)) = some_cycles w n d count e some h m
 
 from_step : (x : StepTree) (u : List Lexeme) → SpellsStep x u → OneOf StepTree APut ACycle x u
-from_step x u (a_put w p q d panel e zero h m n) = the_one (Panel panel (token_of q)) (w ∷ p ∷ q ∷ d ∷ []) (the_put w p q d panel e zero h m n)
+from_step x u (a_put w p q d panel e zero h m n) = the_one (Panel panel (spot_of q)) (w ∷ p ∷ q ∷ d ∷ []) (the_put w p q d panel e zero h m n)
 from_step x u (some_cycles w n d count e some h m) = the_other (Cycle count) (w ∷ n ∷ d ∷ []) (the_cycles w n d count e some h m)
 
 pub good_step : Good StepTree spec.step SpellsStep Always Always

@@ -98,8 +98,7 @@ fn run_tree<K: Sink>(
     tokens: &mut Tokens<'_>,
     sink: &mut K,
 ) -> Result<Status, Failed>
-    requires short { length input.now ≤ input_limit }
-    requires spelled { IsSpelledIn input.now tree.now }
+    requires { IsSpelledIn input.now tree.now }
     ensures answered { result ≢ Ok Status.NoMemory → Replies (TreeAnswers input.now tree.now tokens.old.left tokens.old.end)
         (K.written sink.old) (K.written sink.new) (K.faults sink.old) (K.faults sink.new) result }
     ensures nothing { result ≡ Ok Status.NoMemory → sink.new ≡ sink.old }

@@ -22,7 +22,6 @@ mod script;
 mod status;
 #[cfg(test)]
 mod tests;
-mod text;
 mod trace;
 mod words;
 

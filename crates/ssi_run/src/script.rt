@@ -13,9 +13,10 @@ ghost use Rattle.ssi_run.specs.Traces.{cycles_of as count_of_step};
 ghost use Rattle.ssi_run.specs.declared.script.ScriptStep.{ScriptStep as Step};
 
 use crate::refusal::Refusal;
-use crate::text::characters;
 use ssi_identities::{Kind, Names};
-use ssi_lexer::{Part, Stop, TextEnd, Token, TokenKind, Tokens, Wanted};
+use ssi_lexer::{Part, Stop, TextEnd, TokenKind, Tokens, Wanted};
+use ssi_names::characters;
+use ssi_terms::Spot;
 use std::alloc::Global;
 
 /// How many minor cycles a script makes at most.
@@ -25,7 +26,7 @@ const MOST_CYCLES: u32 = 1_000_000;
 #[derive(Clone, Copy, Debug, PartialEq, Eq)]
 pub enum StepTree {
     /// A request is put on a panel.
-    Panel { panel: u8, request: Token },
+    Panel { panel: u8, request: Spot },
     /// So many minor cycles are made, at least one.
     Cycle { count: u32 },
 }
@@ -84,7 +85,7 @@ fn put(tokens: &mut Tokens<'_>) -> Result<StepTree, Stop>
 {
     tokens.take(Wanted::Word(b"panel"))?;
     let panel = panel(tokens)?;
-    let request = tokens.take(Wanted::Kind(TokenKind::Name))?;
+    let request = Spot::at(tokens.take(Wanted::Kind(TokenKind::Name))?);
     tokens.take(Wanted::Kind(TokenKind::Dot))?;
     Ok(StepTree::Panel { panel, request })
 }
@@ -133,7 +134,7 @@ fn named(text: &[u8], names: &Names, tree: StepTree) -> Result<ScriptStep, Refus
 {
     match tree {
         StepTree::Panel { panel, request } => {
-            match names.find(Kind::Request, characters(text, request.start, request.len)) {
+            match names.find(Kind::Request, characters(text, &request)) {
                 Some(request) => Ok(ScriptStep::Panel { panel, request }),
                 None => Err(Refusal::Later),
             }

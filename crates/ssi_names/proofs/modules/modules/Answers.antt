@@ -1,4 +1,4 @@
-use Rattle.std.proofs.Common.{◌≡◌, ◌++◌, true, min, refl, ap, sym, ◌∙◌, take, arith}
+use Rattle.std.proofs.Common.{◌≡◌, ◌++◌, [], true, min, refl, ap, sym, ◌∙◌, take, arith}
 use Rattle.std.proofs.lemmas.List.{append-nil}
 use Rattle.std.specs.Prelude.{slice_set}
 use Rattle.ssi_terms.specs.Trees.{ModuleText}
@@ -38,7 +38,7 @@ loop-entry-preserved c =
     record {
       faults = next_entry (module_faults text (knows c.args.tables.now)) entries i entry c.args.faults.now.items c.loop-entry.faults.items c.pins.new.faults.items within is
           so_far.faults (one ∙ ap (λ (e : ModuleText). c.loop-entry.faults.items ++ module_faults text (knows c.args.tables.now) (take i entries) e) the_same);
-      seen = pins_more text entries i entry named.result.now c.loop-entry.seen c.pins.new.seen within is (named.ensures.value ∙ ap (λ (e : ModuleText). e.pins) the_same)
+      seen = pins_more text entries i entry named.result.now [] c.loop-entry.seen c.pins.new.seen within is (named.ensures.value ∙ ap (λ (e : ModuleText). e.pins) the_same)
           so_far.seen c.in_ok-pins.ensures.seen;
       used = marked_entry (λ e. number text e.address) entries i entry 64 c.loop-entry.used c.address.new.used within (omega arith) is so_far.used
           (c.address.ensures.used ∙ ap (λ (e : ModuleText). slice_set c.loop-entry.used (min (number text e.address) 255) true) the_same);

@@ -1,15 +1,12 @@
 use Rattle.std.proofs.Common.{◌∙◌, sym, subst}
 use Rattle.ssi_names.specs.Well.{IsWell}
-use Rattle.ssi_names.proofs.Fine.{same_plan, small_tables, tables_within_limits}
+use Rattle.ssi_names.proofs.Fine.{same_plan, small_tables}
 use Rattle.ssi_names.proofs.Wellness.{is_well}
 use Rattle.ssi_names.proofs.WellModules.{addresses_small}
 use Rattle.ssi_names.proofs.resolving.accept.Goals as goal
 
 pub data_set-requires-clause-small : goal.data_set-requires-clause-small
 data_set-requires-clause-small c = small_tables c.args.text.now c.args.tree.now c.args.tables.now c.requires.tables c.requires.fine
-
-pub data_set-requires-clause-limits : goal.data_set-requires-clause-limits
-data_set-requires-clause-limits c = tables_within_limits c.args.text.now c.args.tree.now c.args.tables.now c.requires.tables c.requires.fine
 
 pub data_set-requires-clause-addresses : goal.data_set-requires-clause-addresses
 data_set-requires-clause-addresses c = addresses_small c.args.text.now c.args.tree.now c.requires.fine

@@ -1,0 +1,35 @@
+use Rattle.std.proofs.Common.{◌≡◌, length, map, ap, sym, ◌∙◌, arith, rules}
+use Rattle.std.proofs.lemmas.Bool.Decides.{nat_tests}
+use Rattle.std.proofs.lemmas.Grind.{common_steps}
+use Rattle.std.proofs.lemmas.List.{nil_from_length}
+use Rattle.ssi_names.specs.Tables.{table_of}
+use Rattle.ssi_names.proofs.Fine.{tables_within_limits}
+use Rattle.ssi_names.proofs.Known.{same_faults}
+use Rattle.ssi_names.proofs.Numbered.{rows_are}
+use Rattle.ssi_names.proofs.resolving.resolve_by.Goals as goal
+
+pub judge_source-requires-clause-short : goal.judge_source-requires-clause-short
+judge_source-requires-clause-short c = c.requires.formed.requests
+
+pub accept-requires-clause-fine : goal.accept-requires-clause-fine
+accept-requires-clause-fine c =
+    let faults = c.in-Ok.field-0.faults in
+    let none : length faults.items ≡ 0 = first_of (search rules, grind (arith, common_steps, nat_tests)) in
+    sym (c.in-Ok.ensures.faults ∙ same_faults c.args.text.now c.args.tree.now c.args.tables.now c.requires.tables) ∙ nil_from_length faults.items none
+
+pub accept-requires-clause-requests : goal.accept-requires-clause-requests
+accept-requires-clause-requests c =
+    let text = c.args.text.now in
+    let tree = c.args.tree.now in
+    let tables = c.args.tables.now in
+    let counts = c.counts_within-counts in
+    let faults = c.in-Ok.field-0.faults in
+    let none : length faults.items ≡ 0 = first_of (search rules, grind (arith, common_steps, nat_tests)) in
+    let fine = sym (c.in-Ok.ensures.faults ∙ same_faults text tree tables c.requires.tables) ∙ nil_from_length faults.items none in
+    c.in-Ok.ensures.requests ∙ ap (λ row. map row tree.requests) (rows_are text counts.result (table_of tables) counts.ensures.limited counts.ensures.past (tables_within_limits text tree tables c.requires.tables fine))
+
+pub returns-else-is_empty : goal.returns-else-is_empty
+returns-else-is_empty c =
+    let faults = c.in-Ok.field-0.faults in
+    let same = c.in-Ok.ensures.faults ∙ same_faults c.args.text.now c.args.tree.now c.args.tables.now c.requires.tables in
+    (λ none. let no : length faults.items ≡ 0 = ap length (same ∙ none) in grind (arith, common_steps, nat_tests), same)

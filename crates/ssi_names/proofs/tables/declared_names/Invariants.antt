@@ -1,7 +1,0 @@
-use Rattle.std.proofs.Common.{◌≡◌, map, take}
-use Rattle.ssi_names.specs.NameLists.{set_of}
-use Rattle.ssi_names.specs.Texts.{characters}
-use Rattle.ssi_names.proofs.tables.declared_names.Given as goal
-
-abbrev pub invariant-loop-entry : goal.invariant-loop-entry
-invariant-loop-entry g l = l.names ≡ set_of (map (λ entry. characters l.text (g.X.Named.name_of entry)) (take l.entry-index l.entries))
