@@ -13,7 +13,9 @@ ghost use Rattle.ssi_terms.specs.Grammar.{deepest};
 ghost use Rattle.ssi_terms.specs.Tests.{ends_file};
 
 use ssi_lexer::{Entry, Part, Stop, Tokens, Wanted};
-use ssi_terms::{CondTree, ReadFault, Spot, cond, dot, file, file_ended, identity, one_of_words, token};
+use ssi_terms::{
+    CondTree, ReadFault, Spot, cond, dot, file, file_ended, identity, one_of_words, token,
+};
 use std::alloc::Global;
 use std::marker::Model;
 

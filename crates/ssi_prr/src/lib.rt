@@ -6,5 +6,7 @@
 #![tactic(auto)]
 
 mod file;
+#[cfg(test)]
+mod tests;
 
 pub use file::{FileTree, RequestEntry, one_file_tree, read_file, requests};
