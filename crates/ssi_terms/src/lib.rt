@@ -1,11 +1,11 @@
 //! Trees of the source, read from its tokens.
 //!
-//! The layer above may rely on [`read_identities`]: it answers the tree of the files of identities that
-//! the tokens spell, or the first fault of the text, lexical or of syntax, at its exact place. A layer
-//! that reads further files composes its reader of [`identity_files`], [`headers`], [`file`](fn@file) with
-//! an entry such as [`RequestEntry`], and [`file_ended`]: their clauses say what they compute, and laws of
-//! specs/ and proofs/ that it is the grammar. It stands on `ssi_lexer` for tokens and for what readers have
-//! in common.
+//! The layer above may rely on [`read_cond`], [`read_body`], [`read_command`] and [`read_identities`]: each
+//! answers the tree of its part that the tokens spell, or the first fault of the text, lexical, of syntax or
+//! of depth, at its exact place. A layer that reads further files composes its reader of [`cond`], [`body`],
+//! [`command`], [`identity_files`], [`headers`], [`file`](fn@file) with an entry of its own, and
+//! [`file_ended`]: their clauses say what they compute, and laws of specs/ and proofs/ that it is the
+//! grammar. It stands on `ssi_lexer` for tokens and for what readers have in common.
 #![tactic(auto)]
 
 mod bodies;

@@ -1,6 +1,6 @@
 use super::*;
 use ssi_base::Place;
-use ssi_lexer::{BAD_CHARACTER, BAD_NUMBER, LONG_NAME, LexFault, Stop, Tokens};
+use ssi_lexer::{Stop, Tokens};
 use std::alloc::Global;
 use std::process::Abort;
 use std::test::Fail;
@@ -20,162 +20,248 @@ const OTHERS: [&str; 20] = [
     "sx", "hh", "7", ",", ".", "(", ")",
 ];
 
-/// What may stand at a place, with no fault there: such a name, such a word, and these others.
-type Fitting = (bool, bool, &'static [&'static str]);
+/// What begins no token, with the code of its fault.
+const LEXICAL: [(&str, &str); 3] = [("#", "L1"), ("ABCDEFGHIJKLMNOPQ", "L2"), ("00", "L3")];
 
-/// An entry of PRR, each token with what may stand in its place.
-const ENTRY: [(&str, Fitting); 32] = [
-    ("Q1", (false, false, &["Q1", "file"])),
-    ("if", (true, false, &["if"])),
-    ("L1", (true, false, &[])),
-    ("s", (false, true, &[])),
-    (",", (false, false, &[",", "then"])),
-    ("P1", (true, false, &[])),
-    ("cnf", (false, true, &[])),
-    ("then", (false, false, &[",", "then"])),
-    ("S1", (true, false, &[])),
-    ("xs", (false, true, &[])),
-    (",", (false, false, &[",", "else", "end"])),
-    ("R1", (true, false, &[])),
-    ("a", (false, true, &[])),
-    ("else", (false, false, &[",", "else", "end"])),
-    ("T1", (true, false, &[])),
-    ("c", (false, true, &[])),
-    (",", (false, false, &[",", "end"])),
-    ("U1", (true, false, &[])),
-    ("l", (false, true, &[])),
-    ("end", (false, false, &[",", "end"])),
-    (",", (false, false, &[",", "."])),
-    ("if", (true, false, &["if"])),
-    ("L2", (true, false, &[])),
-    ("h", (false, true, &[])),
-    ("then", (false, false, &[",", "then"])),
-    ("L2", (true, false, &[])),
-    ("xs", (false, true, &[])),
-    ("end", (false, false, &[",", "else", "end"])),
-    (",", (false, false, &[",", "."])),
-    ("L3", (true, false, &["if"])),
-    ("s", (false, true, &[])),
-    (".", (false, false, &[",", "."])),
-];
-
-/// The file PRR of a text.
-fn read(rt: &impl Abort, alloc: Global, text: &str) -> Result<Vec<(Spot, BodyTree)>, ReadFault> {
-    let bytes = text.as_bytes();
-    assert!(rt; bytes.len() <= 1000);
-    let mut tokens = Tokens::new(bytes, 0);
-    let requests = file(alloc, &mut tokens, b"PRR", &RequestEntry);
-    file_ended(&tokens, requests)
+/// A reader of a part of the text.
+#[derive(Clone, Copy)]
+enum Reader {
+    Condition,
+    Body,
+    Command,
 }
 
-fn is_syntax(rt: &impl Abort, alloc: Global, text: &str, want: Place) -> bool {
-    matches!(read(rt, alloc, text), Err(ReadFault::Syntax(place)) if place == want)
+/// What a reader answers to a text: the tree with its names, words and numbers, or the fault, and the byte past
+/// the last token taken.
+#[derive(Drop)]
+struct Shown<'a> {
+    text: &'a str,
+    answer: String,
+    spots: Vec<Spot>,
+    position: usize,
 }
 
-fn is_lexical(rt: &impl Abort, alloc: Global, text: &str, code: u8, place: Place) -> bool {
-    let want = LexFault { code, place };
-    matches!(read(rt, alloc, text), Err(ReadFault::Lex(fault)) if fault == want)
-}
-
-fn put(shown: &mut String, text: &str, spot: Spot, mark: &str) -> Result<(), Fail> {
+/// A name, word or number, and the mark behind it.
+fn show_spot(shown: &mut Shown<'_>, spot: Spot, mark: &str) -> Result<(), Fail> {
     let start = spot.start as usize;
     let end = start + spot.len as usize;
-    for letter in text.as_bytes().get(start..end).unwrap_or(b"?") {
-        shown.push(char::from(*letter))?;
+    for letter in shown.text.as_bytes().get(start..end).unwrap_or(b"?") {
+        shown.answer.push(char::from(*letter))?;
     }
-    shown.push_str(mark)?;
+    shown.answer.push_str(mark)?;
+    shown.spots.push(spot)?;
     Ok(())
 }
 
-fn show_items(shown: &mut String, text: &str, guard: &CondTree) -> Result<(), Fail> {
-    for item in guard.items.as_slice() {
-        if let ItemTree::Test { name, word } = item {
-            put(shown, text, *name, "=")?;
-            put(shown, text, *word, ";")?;
+/// A test as `L1=s;`, a bit as `0=h;`, a group as `(L1=s;)(L2=s;);`.
+#[cycle(show_condition)]
+fn show_item(shown: &mut Shown<'_>, item: &ItemTree) -> Result<(), Fail> {
+    match item {
+        ItemTree::Test { name, word } => {
+            show_spot(shown, *name, "=")?;
+            show_spot(shown, *word, ";")
+        }
+        ItemTree::Bit { number, word } => {
+            show_spot(shown, *number, "=")?;
+            show_spot(shown, *word, ";")
+        }
+        ItemTree::Any(alternatives) => {
+            for alternative in alternatives.as_slice() {
+                shown.answer.push_str("(")?;
+                show_condition(shown, alternative)?;
+                shown.answer.push_str(")")?;
+            }
+            shown.answer.push_str(";")?;
+            Ok(())
         }
     }
-    Ok(())
 }
 
-fn show_commands(shown: &mut String, text: &str, body: &BodyTree) -> Result<(), Fail> {
-    for part in body.parts.as_slice() {
-        if let PartTree::Do(command) = part {
-            put(shown, text, command.name, ":=")?;
-            put(shown, text, command.word, ";")?;
-        }
+#[cycle(show_condition)]
+fn show_condition(shown: &mut Shown<'_>, tree: &CondTree) -> Result<(), Fail> {
+    for item in tree.items.as_slice() {
+        show_item(shown, item)?;
     }
     Ok(())
 }
 
-fn show_part(shown: &mut String, text: &str, part: &PartTree) -> Result<(), Fail> {
+/// A command as `L1:=s;`.
+fn show_command(shown: &mut Shown<'_>, tree: &CommandTree) -> Result<(), Fail> {
+    show_spot(shown, tree.name, ":=")?;
+    show_spot(shown, tree.word, ";")
+}
+
+/// A choice as `[L1=s;?L2:=s;]` or `[L1=s;?L2:=s;|L2:=xs;]`.
+#[cycle(show_body)]
+fn show_part(shown: &mut Shown<'_>, part: &PartTree) -> Result<(), Fail> {
     match part {
-        PartTree::Do(command) => {
-            put(shown, text, command.name, ":=")?;
-            put(shown, text, command.word, ";")?;
-        }
+        PartTree::Do(command) => show_command(shown, command),
         PartTree::If {
             guard,
             then_body,
             else_body,
         } => {
-            shown.push_str("(")?;
-            show_items(shown, text, guard)?;
-            shown.push_str("?")?;
-            show_commands(shown, text, then_body)?;
+            shown.answer.push_str("[")?;
+            show_condition(shown, guard)?;
+            shown.answer.push_str("?")?;
+            show_body(shown, then_body)?;
             if let Some(body) = else_body {
-                shown.push_str("|")?;
-                show_commands(shown, text, body)?;
+                shown.answer.push_str("|")?;
+                show_body(shown, body)?;
             }
-            shown.push_str(")")?;
+            shown.answer.push_str("]")?;
+            Ok(())
         }
+    }
+}
+
+#[cycle(show_body)]
+fn show_body(shown: &mut Shown<'_>, tree: &BodyTree) -> Result<(), Fail> {
+    for part in tree.parts.as_slice() {
+        show_part(shown, part)?;
     }
     Ok(())
 }
 
-/// Each request with its body: a command as `L1:=s;`, a choice as `(L1=s;?..|..)`.
-fn show(alloc: Global, text: &str, requests: &[(Spot, BodyTree)]) -> Result<String, Fail> {
-    let mut shown = String::new(alloc);
-    for (name, body) in requests {
-        put(&mut shown, text, *name, ":")?;
-        for part in body.parts.as_slice() {
-            show_part(&mut shown, text, part)?;
-        }
-        shown.push_str(".")?;
+/// A fault as its place and its code.
+fn show_fault(alloc: Global, fault: ReadFault) -> Result<String, Fail> {
+    let (place, kind, code) = match fault {
+        ReadFault::Lex(fault) => (fault.place, 'L', fault.code),
+        ReadFault::Syntax(place) => (place, 'S', 1),
+        ReadFault::TooDeep(place) => (place, 'S', 2),
+        ReadFault::Memory => (Place { line: 0, column: 0 }, 'M', 0),
+    };
+    Ok(format!(in alloc; "{}:{} {kind}{code}", place.line, place.column)?)
+}
+
+/// What the reader answers to the text, its tree or its fault.
+fn read<'a>(
+    rt: &impl Abort,
+    alloc: Global,
+    reader: Reader,
+    text: &'a str,
+) -> Result<Shown<'a>, Fail> {
+    let bytes = text.as_bytes();
+    assert!(rt; bytes.len() <= 10_000);
+    let mut tokens = Tokens::new(bytes, 0);
+    let mut shown = Shown {
+        text,
+        answer: String::new(alloc),
+        spots: Vec::new(alloc),
+        position: 0,
+    };
+    match reader {
+        Reader::Condition => match read_cond(alloc, &mut tokens) {
+            Ok(tree) => show_condition(&mut shown, &tree)?,
+            Err(fault) => shown.answer = show_fault(alloc, fault)?,
+        },
+        Reader::Body => match read_body(alloc, &mut tokens) {
+            Ok(tree) => show_body(&mut shown, &tree)?,
+            Err(fault) => shown.answer = show_fault(alloc, fault)?,
+        },
+        Reader::Command => match read_command(&mut tokens) {
+            Ok(tree) => show_command(&mut shown, &tree)?,
+            Err(fault) => shown.answer = show_fault(alloc, fault)?,
+        },
     }
+    shown.position = tokens.position();
     Ok(shown)
 }
 
-fn check_read(rt: &impl Abort, alloc: Global, text: &str, want: &str) -> Result<(), Fail> {
-    let requests = read(rt, alloc, text)?;
-    let shown = show(alloc, text, requests.as_slice())?;
-    assert_eq!(rt; shown.as_str(), want);
+/// The reader answers this to the text.
+fn check(
+    rt: &impl Abort,
+    alloc: Global,
+    reader: Reader,
+    text: &str,
+    want: &str,
+) -> Result<(), Fail> {
+    let shown = read(rt, alloc, reader, text)?;
+    assert_eq!(rt; shown.answer.as_str(), want, "{text}");
     Ok(())
 }
 
 #[test]
-fn requests_are_read(rt: HostRuntime) -> Result<(), Fail> {
+fn conditions_are_read(rt: HostRuntime) -> Result<(), Fail> {
     let alloc = rt.alloc();
-    let rows = [
-        ("file PRR", ""),
-        ("file PRR file", ""),
-        ("file PRR Q1 L1 s .", "Q1:L1:=s;."),
+    for (text, want) in [
+        ("L1 s", "L1=s;"),
+        ("L1s", "L1=s;"),
+        ("0 h", "0=h;"),
+        ("7l", "7=l;"),
+        ("1234567 h", "1234567=h;"),
+        ("L1 h, L1 l, 0 h", "L1=h;L1=l;0=h;"),
+        ("P1 cnf, LAMP-2\nxs / two\n", "P1=cnf;LAMP-2=xs;"),
+        ("(L1 s or L2 s)", "(L1=s;)(L2=s;);"),
         (
-            "file PRR Q2 P1 cn, LAMP-2 xs . / two\n QA L1\ns. file",
-            "Q2:P1:=cn;LAMP-2:=xs;.QA:L1:=s;.",
-        ),
-        ("file PRR Q1 if L1 s then L2 s end.", "Q1:(L1=s;?L2:=s;)."),
-        (
-            "file PRR Q1 L3 s, if P1 cnf, S1 xs then R1 a, U1 l else T1 o, L5 xs end, L6 s .",
-            "Q1:L3:=s;(P1=cnf;S1=xs;?R1:=a;U1:=l;|T1:=o;L5:=xs;)L6:=s;.",
+            "(L1 s or T1 c or 0 l or P1 cn)",
+            "(L1=s;)(T1=c;)(0=l;)(P1=cn;);",
         ),
         (
-            "file PRR Q1 if L1 s then L1 xs end, if L2 s then L2 xs end.",
-            "Q1:(L1=s;?L1:=xs;)(L2=s;?L2:=xs;).",
+            "U1 f, (L1 s, L2 s or L3 s, 0 h), R1 a",
+            "U1=f;(L1=s;L2=s;)(L3=s;0=h;);R1=a;",
         ),
-    ];
-    for (text, want) in rows {
-        check_read(&rt, alloc, text, want)?;
+        ("((L1 s or L2 s) or L3 s)", "((L1=s;)(L2=s;);)(L3=s;);"),
+        (
+            "(L1 s or (L2 s or L3 s), L4 s or (L5 s or (L6 s or L7 s)))",
+            "(L1=s;)((L2=s;)(L3=s;);L4=s;)((L5=s;)((L6=s;)(L7=s;);););",
+        ),
+        (
+            "(L1 s or L2 s), (L3 s or L4 s)",
+            "(L1=s;)(L2=s;);(L3=s;)(L4=s;);",
+        ),
+    ] {
+        check(&rt, alloc, Reader::Condition, text, want)?;
     }
+    one_cond_tree();
+    Ok(())
+}
+
+#[test]
+fn commands_and_bodies_are_read(rt: HostRuntime) -> Result<(), Fail> {
+    let alloc = rt.alloc();
+    for (text, want) in [
+        ("L1 s", "L1:=s;"),
+        ("P1 cn, LAMP-2 xs / two\n, R1 h", "P1:=cn;LAMP-2:=xs;R1:=h;"),
+        ("if L1 s then L2 s end", "[L1=s;?L2:=s;]"),
+        (
+            "if 0 h, T1 c then T1 c, T2 o else T1 o end",
+            "[0=h;T1=c;?T1:=c;T2:=o;|T1:=o;]",
+        ),
+        (
+            "L3 s, if P1 cnf then R1 a end, L6 s, if L1 s then L1 xs else L1 s end",
+            "L3:=s;[P1=cnf;?R1:=a;]L6:=s;[L1=s;?L1:=xs;|L1:=s;]",
+        ),
+        (
+            "if (L1 s or L2 s), L3 s then L4 s end",
+            "[(L1=s;)(L2=s;);L3=s;?L4:=s;]",
+        ),
+        // An `else` belongs to the inner choice, until that has its own or its `end`.
+        (
+            "if L1 s then if L2 s then L3 s else L4 s end end",
+            "[L1=s;?[L2=s;?L3:=s;|L4:=s;]]",
+        ),
+        (
+            "if L1 s then if L2 s then L3 s end else L4 s end",
+            "[L1=s;?[L2=s;?L3:=s;]|L4:=s;]",
+        ),
+        (
+            "if L1 s then if L2 s then L3 s else L4 s end else L5 s end",
+            "[L1=s;?[L2=s;?L3:=s;|L4:=s;]|L5:=s;]",
+        ),
+        (
+            "if L1 s then L2 s else if L3 s then L4 s else L5 s end end",
+            "[L1=s;?L2:=s;|[L3=s;?L4:=s;|L5:=s;]]",
+        ),
+        (
+            "if L1 s then L2 s, if L3 s then if L4 s then L5 s end end, L6 s end, L7 s",
+            "[L1=s;?L2:=s;[L3=s;?[L4=s;?L5:=s;]]L6:=s;]L7:=s;",
+        ),
+    ] {
+        check(&rt, alloc, Reader::Body, text, want)?;
+    }
+    check(&rt, alloc, Reader::Command, "P1 cn", "P1:=cn;")?;
+    one_body_tree();
     Ok(())
 }
 
@@ -184,112 +270,389 @@ fn each_name_goes_with_each_word(rt: HostRuntime) -> Result<(), Fail> {
     let alloc = rt.alloc();
     for name in NAMES {
         for word in WORDS {
-            let text = format!(in alloc; "file PRR Q1 if {name} {word} then {name} {word} end.")?;
-            let want = format!(in alloc; "Q1:({name}={word};?{name}:={word};).")?;
-            check_read(&rt, alloc, text.as_str(), want.as_str())?;
+            let text = format!(in alloc; "if {name} {word} then {name} {word} end")?;
+            let want = format!(in alloc; "[{name}={word};?{name}:={word};]")?;
+            check(&rt, alloc, Reader::Body, text.as_str(), want.as_str())?;
         }
     }
     Ok(())
 }
 
-/// The place of a token of the entry, of which each has a line of its own.
-fn place_of(index: usize) -> Place {
-    let line = u32::try_from(index.saturating_add(3)).unwrap_or(u32::MAX);
-    Place { line, column: 1 }
+#[test]
+fn spots_tell_where_they_stand(rt: HostRuntime) -> Result<(), Fail> {
+    let alloc = rt.alloc();
+    let text = "if (12 h / bit\n or T-1 o) then\n\n\tP1 cnf else L1 s end";
+    let shown = read(&rt, alloc, Reader::Body, text)?;
+    let want = [
+        (4, 2, 2, 1, 5),
+        (7, 1, 3, 1, 8),
+        (19, 3, 5, 2, 5),
+        (23, 1, 6, 2, 9),
+        (33, 2, 9, 4, 2),
+        (36, 3, 10, 4, 5),
+        (45, 2, 12, 4, 14),
+        (48, 1, 13, 4, 17),
+    ];
+    assert_eq!(rt; shown.spots.len(), want.len());
+    for (spot, (start, len, token, line, column)) in shown.spots.iter().zip(want) {
+        let place = Place { line, column };
+        assert!(rt;
+            *spot
+                == Spot {
+                    start,
+                    len,
+                    token,
+                    place
+                }
+        );
+    }
+    Ok(())
 }
 
-fn put_tokens(text: &mut String, tokens: &[(&str, Fitting)]) -> Result<(), Fail> {
-    for (token, _) in tokens {
+/// What fits at a place.
+#[derive(Clone, Copy)]
+enum Fits {
+    /// The begin of an item.
+    Item,
+    /// The begin of a part of a body.
+    Part,
+    /// A name with a state.
+    Name,
+    /// A word of a test or a command.
+    Word,
+    /// One of these.
+    One(&'static [&'static str]),
+    /// Whatever is a token: a condition or a body is whole before it.
+    Any,
+}
+
+/// A text for a reader, each token with what fits in its place.
+type Row = (Reader, &'static [(&'static str, Fits)]);
+
+const ROWS: [Row; 3] = [
+    (
+        Reader::Condition,
+        &[
+            ("L1", Fits::Item),
+            ("s", Fits::Word),
+            (",", Fits::Any),
+            ("0", Fits::Item),
+            ("h", Fits::One(&["h", "l"])),
+            (",", Fits::Any),
+            ("(", Fits::Item),
+            ("P1", Fits::Item),
+            ("cnf", Fits::Word),
+            (",", Fits::One(&[",", "or"])),
+            ("1", Fits::Item),
+            ("l", Fits::One(&["h", "l"])),
+            ("or", Fits::One(&[",", "or"])),
+            ("(", Fits::Item),
+            ("T1", Fits::Item),
+            ("c", Fits::Word),
+            ("or", Fits::One(&[",", "or"])),
+            ("R1", Fits::Item),
+            ("a", Fits::Word),
+            (")", Fits::One(&[",", "or", ")"])),
+            ("or", Fits::One(&[",", "or", ")"])),
+            ("S1", Fits::Item),
+            ("lp", Fits::Word),
+            (")", Fits::One(&[",", "or", ")"])),
+            (",", Fits::Any),
+            ("U1", Fits::Item),
+            ("f", Fits::Word),
+        ],
+    ),
+    (
+        Reader::Body,
+        &[
+            ("P1", Fits::Part),
+            ("cn", Fits::Word),
+            (",", Fits::Any),
+            ("if", Fits::Part),
+            ("L1", Fits::Item),
+            ("s", Fits::Word),
+            (",", Fits::One(&[",", "then"])),
+            ("(", Fits::Item),
+            ("T1", Fits::Item),
+            ("c", Fits::Word),
+            ("or", Fits::One(&[",", "or"])),
+            ("T2", Fits::Item),
+            ("c", Fits::Word),
+            (")", Fits::One(&[",", "or", ")"])),
+            ("then", Fits::One(&[",", "then"])),
+            ("R1", Fits::Part),
+            ("s", Fits::Word),
+            (",", Fits::One(&[",", "else", "end"])),
+            ("if", Fits::Part),
+            ("0", Fits::Item),
+            ("h", Fits::One(&["h", "l"])),
+            ("then", Fits::One(&[",", "then"])),
+            ("S1", Fits::Part),
+            ("lp", Fits::Word),
+            ("else", Fits::One(&[",", "else", "end"])),
+            ("S1", Fits::Part),
+            ("xlp", Fits::Word),
+            ("end", Fits::One(&[",", "end"])),
+            ("else", Fits::One(&[",", "else", "end"])),
+            ("if", Fits::Part),
+            ("U1", Fits::Item),
+            ("f", Fits::Word),
+            ("then", Fits::One(&[",", "then"])),
+            ("U1", Fits::Part),
+            ("l", Fits::Word),
+            ("end", Fits::One(&[",", "else", "end"])),
+            (",", Fits::One(&[",", "end"])),
+            ("L1", Fits::Part),
+            ("xs", Fits::Word),
+            ("end", Fits::One(&[",", "end"])),
+            (",", Fits::Any),
+            ("L2", Fits::Part),
+            ("s", Fits::Word),
+        ],
+    ),
+    (Reader::Command, &[("R1", Fits::Name), ("xs", Fits::Word)]),
+];
+
+/// Whether the token fits there.
+fn may_stand(place: Fits, token: &str) -> bool {
+    match place {
+        Fits::Item => NAMES.contains(&token) || token == "7" || token == "(",
+        Fits::Part => NAMES.contains(&token) || token == "if",
+        Fits::Name => NAMES.contains(&token),
+        Fits::Word => WORDS.contains(&token),
+        Fits::One(tokens) => tokens.contains(&token),
+        Fits::Any => true,
+    }
+}
+
+/// The row's text with this at the index in place of its own token, each in a line of its own.
+fn with_wrong(alloc: Global, row: &Row, index: usize, wrong: &str) -> Result<String, Fail> {
+    let mut text = cut_before(alloc, row, index)?;
+    text.push_str(wrong)?;
+    for (token, _) in row.1.get(index.saturating_add(1)..).unwrap_or_default() {
+        text.push_str("\n")?;
+        text.push_str(token)?;
+    }
+    Ok(text)
+}
+
+/// The row's text up to the token at the index.
+fn cut_before(alloc: Global, row: &Row, index: usize) -> Result<String, Fail> {
+    let mut text = String::new(alloc);
+    for (token, _) in row.1.get(..index).unwrap_or_default() {
         text.push_str(token)?;
         text.push_str("\n")?;
     }
+    Ok(text)
+}
+
+/// This fault at the token with the index.
+fn fault_at(alloc: Global, index: usize, fault: &str) -> Result<String, Fail> {
+    Ok(format!(in alloc; "{}:1 {fault}", index.saturating_add(1))?)
+}
+
+#[test]
+fn each_wrong_token_is_told_at_its_place(rt: HostRuntime) -> Result<(), Fail> {
+    let alloc = rt.alloc();
+    for row in &ROWS {
+        for (index, (_, place)) in row.1.iter().enumerate() {
+            let want = fault_at(alloc, index, "S1")?;
+            for wrong in NAMES.iter().chain(WORDS.iter()).chain(OTHERS.iter()) {
+                if !may_stand(*place, wrong) {
+                    let text = with_wrong(alloc, row, index, wrong)?;
+                    check(&rt, alloc, row.0, text.as_str(), want.as_str())?;
+                }
+            }
+        }
+    }
     Ok(())
 }
 
-/// The entry up to the token at the index, behind the header.
-fn cut_before(alloc: Global, index: usize) -> Result<String, Fail> {
-    let mut text = String::new(alloc);
-    text.push_str("file\nPRR\n")?;
-    put_tokens(&mut text, ENTRY.get(..index).unwrap_or_default())?;
-    Ok(text)
+#[test]
+fn the_end_is_told_where_more_is_needed(rt: HostRuntime) -> Result<(), Fail> {
+    let alloc = rt.alloc();
+    for row in &ROWS {
+        for (index, (_, place)) in row.1.iter().enumerate() {
+            // The mark `.` fits where no more is needed, and only there.
+            if !may_stand(*place, ".") {
+                let text = cut_before(alloc, row, index)?;
+                let want = fault_at(alloc, index, "S1")?;
+                check(&rt, alloc, row.0, text.as_str(), want.as_str())?;
+            }
+        }
+    }
+    Ok(())
 }
 
-/// The entry with this token in place of that at the index.
-fn with_wrong(alloc: Global, index: usize, wrong: &str) -> Result<String, Fail> {
-    let mut text = cut_before(alloc, index)?;
-    text.push_str(wrong)?;
-    text.push_str("\n")?;
-    let after = index.saturating_add(1);
-    put_tokens(&mut text, ENTRY.get(after..).unwrap_or_default())?;
-    Ok(text)
+#[test]
+fn of_two_faults_the_first_is_told(rt: HostRuntime) -> Result<(), Fail> {
+    let alloc = rt.alloc();
+    for row in &ROWS {
+        for (index, (_, place)) in row.1.iter().enumerate() {
+            for (lexical, code) in LEXICAL {
+                let mut before = with_wrong(alloc, row, index, lexical)?;
+                before.push_str("\n.")?;
+                let want = fault_at(alloc, index, code)?;
+                check(&rt, alloc, row.0, before.as_str(), want.as_str())?;
+                if !may_stand(*place, ".") {
+                    let mut behind = with_wrong(alloc, row, index, ".")?;
+                    behind.push_str("\n")?;
+                    behind.push_str(lexical)?;
+                    let want = fault_at(alloc, index, "S1")?;
+                    check(&rt, alloc, row.0, behind.as_str(), want.as_str())?;
+                }
+            }
+        }
+    }
+    Ok(())
 }
 
-/// These tokens, but for those that may stand there, are told at their place in the entry.
-fn check_wrong(
+/// The reader takes `L1 s` alone where this follows, or tells this fault of it.
+fn check_before(
     rt: &impl Abort,
     alloc: Global,
-    index: usize,
-    tokens: &[&str],
-    fitting: &[&str],
+    reader: Reader,
+    after: &str,
+    fault: Option<&str>,
 ) -> Result<(), Fail> {
-    for wrong in tokens {
-        if !(&*fitting).contains(wrong) {
-            let text = with_wrong(alloc, index, wrong)?;
-            let told = is_syntax(rt, alloc, text.as_str(), place_of(index));
-            assert!(rt; told, "{text}");
+    let text = format!(in alloc; "L1 s {after}")?;
+    let shown = read(rt, alloc, reader, text.as_str())?;
+    match fault {
+        Some(want) => assert_eq!(rt; shown.answer.as_str(), want, "{text}"),
+        None => {
+            assert_eq!(rt; shown.spots.len(), 2, "{text}");
+            assert_eq!(rt; shown.position, 4, "{text}");
         }
     }
     Ok(())
 }
 
 #[test]
-fn each_wrong_token_of_an_entry_is_told_at_its_place(rt: HostRuntime) -> Result<(), Fail> {
+fn a_condition_and_a_body_end_before_any_token_but_a_comma(rt: HostRuntime) -> Result<(), Fail> {
     let alloc = rt.alloc();
-    for (index, (_, (name, word, others))) in ENTRY.iter().enumerate() {
-        if !name {
-            check_wrong(&rt, alloc, index, &NAMES, &[])?;
+    for reader in [Reader::Condition, Reader::Body, Reader::Command] {
+        let is_list = !matches!(reader, Reader::Command);
+        for after in NAMES.iter().chain(WORDS.iter()).chain(OTHERS.iter()) {
+            let goes_on = is_list && *after == ",";
+            let fault = if goes_on { Some("1:7 S1") } else { None };
+            check_before(&rt, alloc, reader, after, fault)?;
         }
-        if !word {
-            check_wrong(&rt, alloc, index, &WORDS, &[])?;
+        for (after, code) in LEXICAL {
+            let want = format!(in alloc; "1:6 {code}")?;
+            let fault = if is_list { Some(want.as_str()) } else { None };
+            check_before(&rt, alloc, reader, after, fault)?;
         }
-        check_wrong(&rt, alloc, index, &OTHERS, others)?;
+    }
+    Ok(())
+}
+
+/// So many levels of this in one another.
+fn nested(
+    alloc: Global,
+    levels: usize,
+    open: &str,
+    inside: &str,
+    close: &str,
+) -> Result<String, Fail> {
+    let mut text = String::new(alloc);
+    for _level in 0..levels {
+        text.push_str(open)?;
+    }
+    text.push_str(inside)?;
+    for _level in 0..levels {
+        text.push_str(close)?;
+    }
+    Ok(text)
+}
+
+#[test]
+fn groups_and_choices_lie_eight_deep_in_one_another(rt: HostRuntime) -> Result<(), Fail> {
+    let alloc = rt.alloc();
+    let groups = nested(alloc, 8, "(", "L1 s", " or L2 s)")?;
+    let tree = nested(alloc, 8, "(", "L1=s;", ")(L2=s;);")?;
+    check(
+        &rt,
+        alloc,
+        Reader::Condition,
+        groups.as_str(),
+        tree.as_str(),
+    )?;
+    let text = format!(in alloc; "{groups}, {groups}")?;
+    let want = format!(in alloc; "{tree}{tree}")?;
+    check(&rt, alloc, Reader::Condition, text.as_str(), want.as_str())?;
+    // Each guard has groups of its own, and groups and choices are counted apart.
+    for (guard, guard_tree) in [("L1 s", "L1=s;"), (groups.as_str(), tree.as_str())] {
+        for (then, then_tree) in [("", ""), ("L2 s, ", "L2:=s;"), ("L2 s else ", "L2:=s;|")] {
+            let open = format!(in alloc; "if {guard} then {then}")?;
+            let choices = nested(alloc, 8, open.as_str(), "L3 s", " end")?;
+            let open = format!(in alloc; "[{guard_tree}?{then_tree}")?;
+            let tree = nested(alloc, 8, open.as_str(), "L3:=s;", "]")?;
+            check(&rt, alloc, Reader::Body, choices.as_str(), tree.as_str())?;
+            let text = format!(in alloc; "{choices}, {choices}")?;
+            let want = format!(in alloc; "{tree}{tree}")?;
+            check(&rt, alloc, Reader::Body, text.as_str(), want.as_str())?;
+        }
     }
     Ok(())
 }
 
 #[test]
-fn the_end_within_an_entry_is_told(rt: HostRuntime) -> Result<(), Fail> {
+fn the_opening_of_a_ninth_level_is_told(rt: HostRuntime) -> Result<(), Fail> {
     let alloc = rt.alloc();
-    // At the start no entry needs to come, and at the end nothing more.
-    for index in 1..ENTRY.len() {
-        let text = cut_before(alloc, index)?;
-        let told = is_syntax(&rt, alloc, text.as_str(), place_of(index));
-        assert!(rt; told, "{text}");
-    }
-    Ok(())
-}
-
-#[test]
-fn of_two_faults_of_an_entry_the_first_is_told(rt: HostRuntime) -> Result<(), Fail> {
-    let alloc = rt.alloc();
-    let lexical = [
-        ("#", BAD_CHARACTER),
-        ("ABCDEFGHIJKLMNOPQ", LONG_NAME),
-        ("00", BAD_NUMBER),
-    ];
-    for (index, _) in ENTRY.iter().enumerate() {
-        let want = place_of(index);
-        for (wrong, code) in lexical {
-            let mut before = with_wrong(alloc, index, wrong)?;
-            before.push_str("(")?;
-            assert!(rt;
-                is_lexical(&rt, alloc, before.as_str(), code, want),
-                "{before}"
-            );
-            let mut behind = with_wrong(alloc, index, "(")?;
-            behind.push_str(wrong)?;
-            assert!(rt; is_syntax(&rt, alloc, behind.as_str(), want), "{behind}");
-        }
+    for (reader, before, levels, open, behind, want) in [
+        (Reader::Condition, "", 9, "(", "L1 s or L2 s)", "1:9 S2"),
+        (Reader::Condition, "", 9, "L1 s, (", "", "1:63 S2"),
+        (Reader::Condition, "", 9, "(L1 s or ", "", "1:73 S2"),
+        (Reader::Condition, "", 8, "(", "L1 s or (", "1:17 S2"),
+        (Reader::Condition, "(L1 s or L2 s), ", 9, "(", "", "1:25 S2"),
+        (Reader::Body, "", 9, "if L1 s then ", "L1 s", "1:105 S2"),
+        (Reader::Body, "", 9, "if L1 s then L1 s, ", "", "1:153 S2"),
+        (
+            Reader::Body,
+            "",
+            9,
+            "if L1 s then L1 s else ",
+            "",
+            "1:185 S2",
+        ),
+        (Reader::Body, "", 8, "if L1 s then ", "L1 s, if", "1:111 S2"),
+        (Reader::Body, "if ", 9, "(", "", "1:12 S2"),
+        (
+            Reader::Body,
+            "if L1 s then L1 s else if ",
+            9,
+            "(",
+            "",
+            "1:35 S2",
+        ),
+        // Behind a fault of another sort no level is told, and before one the level is.
+        (Reader::Condition, ". ", 9, "(", "", "1:1 S1"),
+        (Reader::Condition, "(L1 s . ", 9, "(", "", "1:7 S1"),
+        (Reader::Condition, "# ", 9, "(", "", "1:1 L1"),
+        (Reader::Condition, "", 9, "(", ".", "1:9 S2"),
+        (Reader::Condition, "", 9, "(", "#", "1:9 S2"),
+        (
+            Reader::Body,
+            "if L1 then ",
+            9,
+            "if L1 s then ",
+            "",
+            "1:7 S1",
+        ),
+        (Reader::Body, "if # then ", 9, "if L1 s then ", "", "1:4 L1"),
+        (Reader::Body, "", 9, "if L1 s then ", ".", "1:105 S2"),
+        (Reader::Body, "", 9, "if L1 s then ", "#", "1:105 S2"),
+        // The same within eight levels.
+        (Reader::Condition, "", 8, "(", "", "1:9 S1"),
+        (Reader::Condition, "", 8, "(", ".", "1:9 S1"),
+        (Reader::Condition, "", 8, "(", "#", "1:9 L1"),
+        (Reader::Body, "", 8, "if L1 s then ", "", "1:105 S1"),
+        (Reader::Body, "", 8, "if L1 s then ", ".", "1:105 S1"),
+        (Reader::Body, "", 8, "if L1 s then ", "#", "1:105 L1"),
+    ] {
+        let opened = nested(alloc, levels, open, behind, "")?;
+        let text = format!(in alloc; "{before}{opened}")?;
+        check(&rt, alloc, reader, text.as_str(), want)?;
     }
     Ok(())
 }
@@ -325,35 +688,4 @@ fn headers_stand_in_their_order(rt: HostRuntime) {
     ] {
         assert_eq!(rt; wrong_header(&rt, text), want, "{text}");
     }
-}
-
-#[test]
-fn spots_of_a_command_tell_where_they_stand(rt: HostRuntime) -> Result<(), Fail> {
-    let alloc = rt.alloc();
-    let requests = read(&rt, alloc, "file PRR Q1\n  POINTS-7 cnf.")?;
-    let name = Spot {
-        start: 14,
-        len: 8,
-        token: 3,
-        place: Place { line: 2, column: 3 },
-    };
-    let word = Spot {
-        start: 23,
-        len: 3,
-        token: 4,
-        place: Place {
-            line: 2,
-            column: 12,
-        },
-    };
-    for (_, body) in requests.as_slice() {
-        for part in body.parts.as_slice() {
-            if let PartTree::Do(command) = part {
-                assert!(rt; *command == CommandTree { name, word });
-            }
-        }
-        assert_eq!(rt; body.parts.len(), 1);
-    }
-    assert_eq!(rt; requests.len(), 1);
-    Ok(())
 }
