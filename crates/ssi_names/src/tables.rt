@@ -19,7 +19,7 @@ use crate::source::SourceTree;
 use crate::text::characters;
 use ssi_base::OutOfMemory;
 use ssi_identities::{Counts, Kind};
-use ssi_terms::{IdentityTree, ModuleEntry, Spot};
+use ssi_terms::{BodyTree, IdentityTree, ModuleEntry, Spot};
 use std::alloc::Global;
 
 /// The names of each kind that are declared, and the names that modules have at their pins.
@@ -121,9 +121,22 @@ fn no_names(alloc: Global) -> Tables
 pub fn tables_of(alloc: Global, text: &[u8], tree: &SourceTree) -> Result<Tables, OutOfMemory>
     ensures { IfOk result (AreTablesOf text.now tree.now) }
 {
+    tables_of_files(alloc, text, &tree.identities, tree.requests.entries.as_slice())
+}
+
+/// The tables of the files of identities and of PRR.
+fn tables_of_files(
+    alloc: Global,
+    text: &[u8],
+    tree: &IdentityTree,
+    requests: &[(Spot, BodyTree)],
+) -> Result<Tables, OutOfMemory>
+    ensures { IfOk result (AreTablesOf text.now
+        (record { identities = tree.now; requests = requests.now })) }
+{
     let mut tables = no_names(alloc);
-    add_identities(alloc, text, &mut tables, &tree.identities)?;
-    add_names(alloc, text, &mut tables.requests, tree.requests.entries.as_slice())?;
+    add_identities(alloc, text, &mut tables, tree)?;
+    add_names(alloc, text, &mut tables.requests, requests)?;
     Ok(tables)
 }
 
