@@ -1,6 +1,6 @@
 //! Bodies: each name is declared, each word is a test or a command that the file may have, and both become a number.
 
-ghost use Rattle.std.specs.Prelude.{◌≡◌, ◌++◌, option_map, IfOk, OnOk};
+ghost use Rattle.std.specs.Prelude.{◌≡◌, ◌∷◌, ◌++◌, [], option_map, IfOk, OnOk};
 ghost use Rattle.ssi_names.specs.Bodies.{else_faults};
 ghost use Rattle.ssi_names.specs.Scopes as spec;
 ghost use Rattle.ssi_names.specs.Scopes.{AreLimited};
@@ -58,40 +58,38 @@ pub fn body(
 {
     let mut items = Items::from_vec(Vec::with_capacity(alloc, tree.parts.len())?);
     for piece in tree.parts.as_slice() {
-        items.push(part(alloc, scope, piece, faults)?)?;
+        add_part(alloc, scope, piece, &mut items, faults)?;
     }
     Ok(Body { items })
 }
 
+/// Adds the item of a tree to a body. Notes its faults. An item is large, and so it is made where it is to stand.
 #[cycle(body)]
 #[tactic(auto, using(std::proofs::lemmas::List::append_assoc))]
-fn part(
+fn add_part(
     alloc: Global,
     scope: &Scope<'_>,
     tree: &PartTree,
+    items: &mut Items<BodyItem>,
     faults: &mut Vec<Fault>,
-) -> Result<BodyItem, OutOfMemory>
+) -> Result<(), OutOfMemory>
     requires { AreLimited scope.now.counts (table_of scope.now.tables.now) }
     ensures faults { OnOk result (faults.new.items ≡ faults.old.items ++ spec.part_faults scope.now tree.now) }
-    ensures row { IfOk result (λ row. row ≡ spec.part_row scope.now tree.now) }
+    ensures row { OnOk result (items.new ≡ items.old ++ spec.part_row scope.now tree.now ∷ []) }
 {
     match tree {
-        PartTree::Do(tree) => Ok(BodyItem::Do(command(scope, tree, faults)?)),
+        PartTree::Do(tree) => items.push(BodyItem::Do(command(scope, tree, faults)?))?,
         PartTree::If {
             guard,
             then_body,
             else_body,
-        } => {
-            let guard = cond(alloc, scope, guard, faults)?;
-            let then_body = body(alloc, scope, then_body, faults)?;
-            let else_body = otherwise(alloc, scope, else_body, faults)?;
-            Ok(BodyItem::If {
-                guard,
-                then_body,
-                else_body,
-            })
-        }
+        } => items.push(BodyItem::If {
+            guard: cond(alloc, scope, guard, faults)?,
+            then_body: body(alloc, scope, then_body, faults)?,
+            else_body: otherwise(alloc, scope, else_body, faults)?,
+        })?,
     }
+    Ok(())
 }
 
 #[cycle(body)]

@@ -1,6 +1,6 @@
 //! Conditions: each name is declared, each word is a test of its kind, and both become a number.
 
-ghost use Rattle.std.specs.Prelude.{◌≡◌, ◌++◌, map, position, IfOk, IfSome, OnOk};
+ghost use Rattle.std.specs.Prelude.{◌≡◌, ◌∷◌, ◌++◌, [], map, position, IfOk, IfSome, OnOk};
 ghost use Rattle.std.specs.Str.{bytes_eq};
 ghost use Rattle.ssi_identities.specs.Facts.{identity_of};
 ghost use Rattle.ssi_names.specs.Occurrences.{joined};
@@ -70,28 +70,34 @@ fn test(
     Ok(test_by(scope, &used, said, lie))
 }
 
+/// Adds the item of a tree to a condition. Notes its faults.
 #[cycle(cond)]
-fn item(
+fn add_item(
     alloc: Global,
     scope: &Scope<'_>,
     tree: &ItemTree,
+    items: &mut Items<CondItem>,
     faults: &mut Vec<Fault>,
-) -> Result<CondItem, OutOfMemory>
+) -> Result<(), OutOfMemory>
     requires { AreLimited scope.now.counts (table_of scope.now.tables.now) }
     ensures faults { OnOk result (faults.new.items ≡ faults.old.items ++ spec.item_faults scope.now tree.now) }
-    ensures row { IfOk result (λ row. row ≡ spec.item_row scope.now tree.now) }
+    ensures row { OnOk result (items.new ≡ items.old ++ spec.item_row scope.now tree.now ∷ []) }
 {
     match tree {
-        ItemTree::Test { name, word } => test(scope, name, word, faults),
+        ItemTree::Test { name, word } => items.push(test(scope, name, word, faults)?)?,
         ItemTree::Bit { number, word: _ } => {
             note(faults, number, &[(true, NOT_IN_THIS_FILE)])?;
-            Ok(CondItem::Lit {
+            items.push(CondItem::Lit {
                 fact: 0,
                 wanted: false,
-            })
+            })?;
         }
-        ItemTree::Any(conds) => Ok(CondItem::Any(group(alloc, scope, conds.as_slice(), faults)?)),
+        ItemTree::Any(conds) => {
+            let alternatives = group(alloc, scope, conds.as_slice(), faults)?;
+            items.push(CondItem::Any(alternatives))?;
+        }
     }
+    Ok(())
 }
 
 #[cycle(cond)]
@@ -126,7 +132,7 @@ pub fn cond(
 {
     let mut items = Items::from_vec(Vec::with_capacity(alloc, tree.items.len())?);
     for part in tree.items.as_slice() {
-        items.push(item(alloc, scope, part, faults)?)?;
+        add_item(alloc, scope, part, &mut items, faults)?;
     }
     Ok(Cond { items })
 }
