@@ -565,94 +565,109 @@ fn nested(
     Ok(text)
 }
 
-#[test]
-fn groups_and_choices_lie_eight_deep_in_one_another(rt: HostRuntime) -> Result<(), Fail> {
-    let alloc = rt.alloc();
-    let groups = nested(alloc, 8, "(", "L1 s", " or L2 s)")?;
+/// The reader answers this to the text, and the same twice to two of them in a list.
+fn check_listed(
+    rt: &impl Abort,
+    alloc: Global,
+    reader: Reader,
+    text: &str,
+    want: &str,
+) -> Result<(), Fail> {
+    check(rt, alloc, reader, text, want)?;
+    let listed = format!(in alloc; "{text}, {text}")?;
+    let want = format!(in alloc; "{want}{want}")?;
+    check(rt, alloc, reader, listed.as_str(), want.as_str())
+}
+
+/// Groups that lie eight deep in one another, and their tree.
+fn eight_groups(alloc: Global) -> Result<(String, String), Fail> {
+    let text = nested(alloc, 8, "(", "L1 s", " or L2 s)")?;
     let tree = nested(alloc, 8, "(", "L1=s;", ")(L2=s;);")?;
-    check(
-        &rt,
-        alloc,
-        Reader::Condition,
-        groups.as_str(),
-        tree.as_str(),
-    )?;
-    let text = format!(in alloc; "{groups}, {groups}")?;
-    let want = format!(in alloc; "{tree}{tree}")?;
-    check(&rt, alloc, Reader::Condition, text.as_str(), want.as_str())?;
-    // Each guard has groups of its own, and groups and choices are counted apart.
-    for (guard, guard_tree) in [("L1 s", "L1=s;"), (groups.as_str(), tree.as_str())] {
-        for (then, then_tree) in [("", ""), ("L2 s, ", "L2:=s;"), ("L2 s else ", "L2:=s;|")] {
-            let open = format!(in alloc; "if {guard} then {then}")?;
-            let choices = nested(alloc, 8, open.as_str(), "L3 s", " end")?;
-            let open = format!(in alloc; "[{guard_tree}?{then_tree}")?;
-            let tree = nested(alloc, 8, open.as_str(), "L3:=s;", "]")?;
-            check(&rt, alloc, Reader::Body, choices.as_str(), tree.as_str())?;
-            let text = format!(in alloc; "{choices}, {choices}")?;
-            let want = format!(in alloc; "{tree}{tree}")?;
-            check(&rt, alloc, Reader::Body, text.as_str(), want.as_str())?;
-        }
+    Ok((text, tree))
+}
+
+#[test]
+fn groups_lie_eight_deep_in_one_another(rt: HostRuntime) -> Result<(), Fail> {
+    let alloc = rt.alloc();
+    let (text, tree) = eight_groups(alloc)?;
+    check_listed(&rt, alloc, Reader::Condition, text.as_str(), tree.as_str())?;
+    let text = nested(alloc, 8, "(L1 s or ", "L2 s", ")")?;
+    let tree = nested(alloc, 8, "(L1=s;)(", "L2=s;", ");")?;
+    check_listed(&rt, alloc, Reader::Condition, text.as_str(), tree.as_str())
+}
+
+/// Choices lie eight deep in one another with this guard, in either branch.
+fn check_choices(rt: &impl Abort, alloc: Global, guard: &str, tree: &str) -> Result<(), Fail> {
+    for (branch, branch_tree) in [("", ""), ("L2 s, ", "L2:=s;"), ("L2 s else ", "L2:=s;|")] {
+        let open = format!(in alloc; "if {guard} then {branch}")?;
+        let text = nested(alloc, 8, open.as_str(), "L3 s", " end")?;
+        let open = format!(in alloc; "[{tree}?{branch_tree}")?;
+        let want = nested(alloc, 8, open.as_str(), "L3:=s;", "]")?;
+        check_listed(rt, alloc, Reader::Body, text.as_str(), want.as_str())?;
     }
     Ok(())
 }
 
 #[test]
+fn choices_lie_eight_deep_whatever_their_guards_have(rt: HostRuntime) -> Result<(), Fail> {
+    let alloc = rt.alloc();
+    let (groups, tree) = eight_groups(alloc)?;
+    check_choices(&rt, alloc, "L1 s", "L1=s;")?;
+    check_choices(&rt, alloc, groups.as_str(), tree.as_str())
+}
+
+/// What comes first, so many levels of what opens one, what comes then, and the fault of it all.
+type Levels = (
+    &'static str,
+    usize,
+    &'static str,
+    &'static str,
+    &'static str,
+);
+
+const GROUPS: [Levels; 13] = [
+    ("", 9, "(", "L1 s or L2 s)", "1:9 S2"),
+    ("", 9, "L1 s, (", "", "1:63 S2"),
+    ("", 9, "(L1 s or ", "", "1:73 S2"),
+    ("", 8, "(", "L1 s or (", "1:17 S2"),
+    ("(L1 s or L2 s), ", 9, "(", "", "1:25 S2"),
+    // Behind a fault of another sort no level is told, and before one the level is.
+    (". ", 9, "(", "", "1:1 S1"),
+    ("(L1 s . ", 9, "(", "", "1:7 S1"),
+    ("# ", 9, "(", "", "1:1 L1"),
+    ("", 9, "(", ".", "1:9 S2"),
+    ("", 9, "(", "#", "1:9 S2"),
+    // The same within eight levels.
+    ("", 8, "(", "", "1:9 S1"),
+    ("", 8, "(", ".", "1:9 S1"),
+    ("", 8, "(", "#", "1:9 L1"),
+];
+
+const CHOICES: [Levels; 13] = [
+    ("", 9, "if L1 s then ", "L1 s", "1:105 S2"),
+    ("", 9, "if L1 s then L1 s, ", "", "1:153 S2"),
+    ("", 9, "if L1 s then L1 s else ", "", "1:185 S2"),
+    ("", 8, "if L1 s then ", "L1 s, if", "1:111 S2"),
+    ("if ", 9, "(", "", "1:12 S2"),
+    ("if L1 s then L1 s else if ", 9, "(", "", "1:35 S2"),
+    ("if L1 then ", 9, "if L1 s then ", "", "1:7 S1"),
+    ("if # then ", 9, "if L1 s then ", "", "1:4 L1"),
+    ("", 9, "if L1 s then ", ".", "1:105 S2"),
+    ("", 9, "if L1 s then ", "#", "1:105 S2"),
+    ("", 8, "if L1 s then ", "", "1:105 S1"),
+    ("", 8, "if L1 s then ", ".", "1:105 S1"),
+    ("", 8, "if L1 s then ", "#", "1:105 L1"),
+];
+
+#[test]
 fn the_opening_of_a_ninth_level_is_told(rt: HostRuntime) -> Result<(), Fail> {
     let alloc = rt.alloc();
-    for (reader, before, levels, open, behind, want) in [
-        (Reader::Condition, "", 9, "(", "L1 s or L2 s)", "1:9 S2"),
-        (Reader::Condition, "", 9, "L1 s, (", "", "1:63 S2"),
-        (Reader::Condition, "", 9, "(L1 s or ", "", "1:73 S2"),
-        (Reader::Condition, "", 8, "(", "L1 s or (", "1:17 S2"),
-        (Reader::Condition, "(L1 s or L2 s), ", 9, "(", "", "1:25 S2"),
-        (Reader::Body, "", 9, "if L1 s then ", "L1 s", "1:105 S2"),
-        (Reader::Body, "", 9, "if L1 s then L1 s, ", "", "1:153 S2"),
-        (
-            Reader::Body,
-            "",
-            9,
-            "if L1 s then L1 s else ",
-            "",
-            "1:185 S2",
-        ),
-        (Reader::Body, "", 8, "if L1 s then ", "L1 s, if", "1:111 S2"),
-        (Reader::Body, "if ", 9, "(", "", "1:12 S2"),
-        (
-            Reader::Body,
-            "if L1 s then L1 s else if ",
-            9,
-            "(",
-            "",
-            "1:35 S2",
-        ),
-        // Behind a fault of another sort no level is told, and before one the level is.
-        (Reader::Condition, ". ", 9, "(", "", "1:1 S1"),
-        (Reader::Condition, "(L1 s . ", 9, "(", "", "1:7 S1"),
-        (Reader::Condition, "# ", 9, "(", "", "1:1 L1"),
-        (Reader::Condition, "", 9, "(", ".", "1:9 S2"),
-        (Reader::Condition, "", 9, "(", "#", "1:9 S2"),
-        (
-            Reader::Body,
-            "if L1 then ",
-            9,
-            "if L1 s then ",
-            "",
-            "1:7 S1",
-        ),
-        (Reader::Body, "if # then ", 9, "if L1 s then ", "", "1:4 L1"),
-        (Reader::Body, "", 9, "if L1 s then ", ".", "1:105 S2"),
-        (Reader::Body, "", 9, "if L1 s then ", "#", "1:105 S2"),
-        // The same within eight levels.
-        (Reader::Condition, "", 8, "(", "", "1:9 S1"),
-        (Reader::Condition, "", 8, "(", ".", "1:9 S1"),
-        (Reader::Condition, "", 8, "(", "#", "1:9 L1"),
-        (Reader::Body, "", 8, "if L1 s then ", "", "1:105 S1"),
-        (Reader::Body, "", 8, "if L1 s then ", ".", "1:105 S1"),
-        (Reader::Body, "", 8, "if L1 s then ", "#", "1:105 L1"),
-    ] {
-        let opened = nested(alloc, levels, open, behind, "")?;
-        let text = format!(in alloc; "{before}{opened}")?;
-        check(&rt, alloc, reader, text.as_str(), want)?;
+    for (reader, rows) in [(Reader::Condition, &GROUPS), (Reader::Body, &CHOICES)] {
+        for (before, levels, open, behind, want) in rows {
+            let opened = nested(alloc, *levels, open, behind, "")?;
+            let text = format!(in alloc; "{before}{opened}")?;
+            check(&rt, alloc, reader, text.as_str(), want)?;
+        }
     }
     Ok(())
 }
