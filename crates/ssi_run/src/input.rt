@@ -11,7 +11,9 @@ ghost use Rattle.ssi_run.specs.Traces.{cycles_in, trace_of};
 ghost use Rattle.ssi_run.specs.Answers.{InputAnswers, IsRun, PlanAnswers, TreeAnswers, done};
 ghost use Rattle.ssi_run.specs.Outcomes.{Replies};
 
-use crate::fault_lines::{write_depth_fault, write_lexical_fault, write_name_faults, write_syntax_fault};
+use crate::fault_lines::{
+    write_depth_fault, write_lexical_fault, write_name_faults, write_syntax_fault,
+};
 use crate::interlocking::Interlocking;
 use crate::refusal::Refusal;
 use crate::requests::request_names;

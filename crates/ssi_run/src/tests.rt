@@ -86,7 +86,7 @@ fn bodies_act_item_by_item(rt: HostRuntime) -> Result<(), Fail> {
     let cases = [
         // Later items see earlier effects.
         (
-            "if L1 xs then L1 s end, if L1 s then L2 s else L1 xs end",
+            "if L1 xs then L1 s, if L1 s then L2 s else L1 xs end end",
             "0 - - 0:Q1 L1:s L2:s\n1 - - 0:Q1\n",
         ),
         // A guard is valued once, before its branch.
@@ -128,13 +128,21 @@ fn layout_of_flag(alloc: Global, name: &str) -> Result<String, Fail> {
     )?)
 }
 
+/// The flags, of which the first request lacks its `end`.
+const WITHOUT_END: &str =
+    "file PTS\nfile SIG\nfile TCS\nfile RTE\nfile SUB\nfile FLG\nL1 .\nL2 .\nfile TFM\nfile PRR\nQ1 if L1 s then L2 s .\nQ2 L1 s .\nfile PFM\nfile FOP\nfile OPT\nfile IPT\n";
+
+/// A layout of one flag and a request, on line 10, whose guard opens these groups and closes eight.
+fn layout_of_groups(alloc: Global, opened: &str) -> Result<String, Fail> {
+    Ok(format!(in alloc;
+        "file PTS\nfile SIG\nfile TCS\nfile RTE\nfile SUB\nfile FLG\nL1 .\nfile TFM\nfile PRR\nQ1 if {opened}L1 s or L1 s)or L1 s)or L1 s)or L1 s)or L1 s)or L1 s)or L1 s)or L1 s)then L1 s end .\nfile PFM\nfile FOP\nfile OPT\nfile IPT\n"
+    )?)
+}
+
 #[test]
 fn every_fault_of_a_layout_is_listed(rt: HostRuntime) -> Result<(), Fail> {
     let alloc = rt.alloc();
-    let nested = layout_with(
-        alloc,
-        "if L1 xs then L1 s, if L1 s then L2 s else L1 xs end end",
-    )?;
+    let nine_groups = layout_of_groups(alloc, "(((((((((")?;
     let long = layout_of_flag(alloc, "LAAAAAAAAAAAAAAAA")?;
     let cases = [
         (
@@ -146,8 +154,8 @@ fn every_fault_of_a_layout_is_listed(rt: HostRuntime) -> Result<(), Fail> {
             "fault 8:1 N2 L1\nfault 11:10 N3 c\nfault 11:17 N1 L7\n",
         ),
         (long.as_str(), "fault 7:1 L2\n"),
-        // An `if` in an `if` is no spelling yet.
-        (nested.as_str(), "fault 1:106 S1\n"),
+        (WITHOUT_END, "fault 11:22 S1\n"),
+        (nine_groups.as_str(), "fault 10:15 S2\n"),
         ("file PTS", "fault 1:9 S1\n"),
         ("file PTS file SIG #", "fault 1:19 L1\n"),
         ("", "fault 1:1 S1\n"),
@@ -188,11 +196,14 @@ fn other_scripts_are_told_later(rt: HostRuntime) -> Result<(), Fail> {
 }
 
 #[test]
-fn longest_name(rt: HostRuntime) -> Result<(), Fail> {
-    let layout = layout_of_flag(rt.alloc(), "LAAAAAAAAAAAAAAA")?;
-    let (status, written) = run(rt.alloc(), layout.as_str(), "file RUN cycle 1 .")?;
-    assert_eq!(rt; status, 0);
-    assert_eq!(rt; written.as_slice(), b"0 - - -\n".as_slice());
+fn longest_name_and_deepest_group(rt: HostRuntime) -> Result<(), Fail> {
+    let longest = layout_of_flag(rt.alloc(), "LAAAAAAAAAAAAAAA")?;
+    let deepest = layout_of_groups(rt.alloc(), "((((((((")?;
+    for layout in [longest, deepest] {
+        let (status, written) = run(rt.alloc(), layout.as_str(), "file RUN cycle 1 .")?;
+        assert_eq!(rt; status, 0, "{layout}");
+        assert_eq!(rt; written.as_slice(), b"0 - - -\n".as_slice(), "{layout}");
+    }
     Ok(())
 }
 
