@@ -20,7 +20,7 @@ use Rattle.ssi_identities.specs.declared.rule.BodyItem.{BodyItem}
 use Rattle.ssi_identities.specs.declared.rule.BodyItem.TheVariants as part
 use Rattle.ssi_identities.specs.declared.rule.Body.{Body}
 use Rattle.ssi_identities.specs.Facts.{count_of, fact_count_of, fact_number_of, identity_of}
-use Rattle.ssi_identities.proofs.Conditions.{cond_is, lit_is, any_is}
+use Rattle.ssi_identities.proofs.Conditions.{cond_is, lit_is, free_is, any_is}
 use Rattle.ssi_identities.proofs.Bodies.{body_is, do_is, if_is}
 use Rattle.ssi_terms.specs.declared.tree.Spot.{Spot}
 use Rattle.ssi_terms.specs.declared.tree.CommandTree.{CommandTree}
@@ -34,13 +34,12 @@ use Rattle.ssi_names.specs.Bodies as f
 use Rattle.ssi_names.specs.BodyRows as r
 use Rattle.ssi_names.specs.Codes.{unknown, wrong_word, not_in_this_file, no_pfm}
 use Rattle.ssi_names.specs.declared.fault.Fault.{Fault}
-use Rattle.ssi_names.specs.Declarations.{no_rules}
 use Rattle.ssi_names.specs.NameLists.{is_among}
 use Rattle.ssi_names.specs.Occurrences.{joined}
 use Rattle.ssi_names.specs.declared.rule_file.RuleFile.TheVariants.{Requests}
 use Rattle.ssi_names.specs.Rows.{counts_by, number_at, fact_by_name, number_by_name}
 use Rattle.ssi_names.specs.Texts.{characters}
-use Rattle.ssi_names.specs.Uses.{flat, item_facts, cond_facts, facts_of_item, facts_tested, part_facts, body_facts, facts_of_part, facts_of_guards, part_commands, body_commands, commands_of_part, commands_of}
+use Rattle.ssi_names.specs.Uses.{flat, item_facts, cond_facts, facts_of_item, facts_tested, of_else, part_has, body_has, had_by_part, had_by, facts_of_guards, commands_of}
 use Rattle.ssi_names.specs.Well.{IsRequestFact}
 use Rattle.ssi_names.specs.Words.{kind_of, facts_of_kind, said_by, fact_of_word, lie_of_word, is_test, may_command}
 use Rattle.ssi_names.proofs.BodyTrees.{tree_body_is, tree_do_is, tree_if_is, tree_body_induction}
@@ -51,7 +50,7 @@ use Rattle.ssi_names.proofs.Fine.{no_front, no_back, first_fine}
 -- ---- facts by words
 
 -- the facts of a kind are of identities of the kind
-pub own_facts : (kind : Kind) → AllByRecursion (λ fact. identity_of fact ≡ kind) (facts_of_kind kind)
+own_facts : (kind : Kind) → AllByRecursion (λ fact. identity_of fact ≡ kind) (facts_of_kind kind)
 own_facts kind = elim kind as (λ k. AllByRecursion (λ fact. identity_of fact ≡ k) (facts_of_kind k)) [
   | Points ↦ (refl, (refl, (refl, tt)))
   | Signal ↦ (refl, tt)
@@ -70,10 +69,14 @@ said_is_by kind fact facts word said false true own rest e = let same : fact ≡
 said_is_by kind fact facts word said false false own rest e = rest e
 
 -- what a word says is a fact of an identity of the kind
-pub said_of_kind : (kind : Kind) (facts : List FactKind) (word : List ℕ) (said : FactKind × Bool) → AllByRecursion (λ fact. identity_of fact ≡ kind) facts → said_by facts word ≡ Some said
+said_of_kind : (kind : Kind) (facts : List FactKind) (word : List ℕ) (said : FactKind × Bool) → AllByRecursion (λ fact. identity_of fact ≡ kind) facts → said_by facts word ≡ Some said
     → identity_of said.0 ≡ kind
 said_of_kind kind [] word said own e = absurd cc
 said_of_kind kind (fact ∷ facts) word said own e = said_is_by kind fact facts word said _ _ own.0 (said_of_kind kind facts word said own.1) e
+
+-- so is what a word says of an identity of the kind
+own_fact : (kind : Kind) (word : List ℕ) (said : FactKind × Bool) → fact_of_word kind word ≡ Some said → identity_of said.0 ≡ kind
+own_fact kind word said is = said_of_kind kind (facts_of_kind kind) word said (own_facts kind) is
 
 -- as many identities have a fact as there are names of its kind
 counted : (names : Kind → List (List ℕ)) (fact : FactKind) → count_of (counts_by names) fact ≡ length (names (identity_of fact))
@@ -107,17 +110,9 @@ not_true : (b : Bool) → not b ≡ false → b ≡ true
 not_true true e = refl
 not_true false e = absurd cc
 
-is_by : (b : Bool) (said : Option (FactKind × Bool)) → b ≡ false → (is_some said || b) ≡ true → (s : FactKind × Bool) × (said ≡ Some s)
-is_by b None e one = absurd cc
-is_by b (Some s) e one = (s, refl)
-
 some_said : (said : Option (FactKind × Bool)) → is_some said ≡ true → (s : FactKind × Bool) × (said ≡ Some s)
 some_said None e = absurd cc
 some_said (Some s) e = (s, refl)
-
-no_lie : (name : List ℕ) (known : Bool) (lie : Option Bool) → known ≡ true → (known && f.lacks_rule (no_rules name) lie) ≡ false → lie ≡ None
-no_lie name known None is e = refl
-no_lie name known (Some lie) is e = absurd cc
 
 -- each part of a list without faults has none
 each_none : {X : Type 0} (faults : X → List Fault) (P : X → Type 0) (xs : List X) → AllByRecursion (λ x. faults x ≡ [] → P x) xs → joined (map faults xs) ≡ [] → AllByRecursion P xs
@@ -141,7 +136,7 @@ parts_well : {X Y Z : Type 0} (P : Z → Type 0) (faults : X → List Fault) (ro
 parts_well P faults row list_of xs each none =
     subst (λ lists. All P (flat lists)) (sym (map-map list_of row xs)) (All-flat P (λ x. list_of (row x)) xs (each_none faults (λ x. All P (list_of (row x))) xs each none))
 
-module _ (text : List ℕ) (names : Kind → List (List ℕ)) where
+module _ (text : List ℕ) (names : Kind → List (List ℕ)) (has_rule : List ℕ → Bool → Bool) where
   abbrev known : Kind → List ℕ → Bool
   known kind name = is_among name (names kind)
 
@@ -155,13 +150,12 @@ module _ (text : List ℕ) (names : Kind → List (List ℕ)) where
   abbrev numbers : List ℕ → ℕ
   numbers = number_by_name names
 
-  -- a declared name and a word that says a fact: the fact is one of the identity's
-  fact_is : (name word : List ℕ) (said : FactKind × Bool) → known (kind_of name) name ≡ true → fact_of_word (kind_of name) word ≡ Some said
+  -- a declared name and a fact of its kind: the fact is one of the identity's
+  fact_is : (name : List ℕ) (said : FactKind × Bool) → known (kind_of name) name ≡ true → identity_of said.0 ≡ kind_of name
       → (index : ℕ) × (index < count_of counts said.0) × (facts said.0 name ≡ fact_number_of counts said.0 index)
-  fact_is name word said found is =
+  fact_is name said found own =
       let kind = kind_of name in
-      let same = said_of_kind kind (facts_of_kind kind) word said (own_facts kind) is in
-      let long : count_of counts said.0 ≡ length (names kind) = counted names said.0 ∙ ap (λ k. length (names k)) same in
+      let long : count_of counts said.0 ≡ length (names kind) = counted names said.0 ∙ ap (λ k. length (names k)) own in
       let place = position_or_len (bytes_eq name) (names kind) in
       (place, omega (arith, place_below (names kind) name found, long), ap (number_at counts said.0) (place_is (names kind) name found))
 
@@ -174,51 +168,49 @@ module _ (text : List ℕ) (names : Kind → List (List ℕ)) where
   IsRequestCommand command = IsRequestFact counts command.fact
 
   -- a name without a fault is declared
-  use_known : (name : Spot) → f.use_faults text known no_rules Requests name ≡ [] → known (kind_of (characters text name)) (characters text name) ≡ true
+  use_known : (name : Spot) → f.use_faults text known has_rule Requests name ≡ [] → known (kind_of (characters text name)) (characters text name) ≡ true
   use_known name none =
       let test = known (kind_of (characters text name)) (characters text name) in
       not_true test (first_fine name (not test) unknown [] none).0
 
-  -- a test without faults tests a fact that there is
-  test_well : (name word : Spot) → f.use_faults text known no_rules Requests name ++ f.test_word_faults text known no_rules Requests (characters text name) word ≡ []
+  -- a test of a fact that there is, or of points that are controlled or free
+  test_by_lie : (name : List ℕ) (said : Option (FactKind × Bool)) (lie : Option Bool) → known (kind_of name) name ≡ true → ((s : FactKind × Bool) → said ≡ Some s → identity_of s.0 ≡ kind_of name)
+      → (is_some said || is_some lie) ≡ true → All IsFact (facts_of_item (r.test_by text facts numbers name (r.said_of text facts numbers name said) lie))
+  test_by_lie name said (Some lie) found own is =
+      subst (All IsFact) (sym (free_is (List ℕ) (List ℕ) item_facts cond_facts (numbers name) lie)) (All-nil IsFact)
+  test_by_lie name None None found own is = absurd cc
+  test_by_lie name (Some s) None found own is =
+      let fact = fact_is name s found (own s refl) in
+      subst (All IsFact) (sym (lit_is (List ℕ) (List ℕ) item_facts cond_facts (facts s.0 name) s.1))
+      (All-cons IsFact (facts s.0 name) [] (subst IsFact (sym fact.2) (fact_below counts s.0 fact.0 fact.1)) (All-nil IsFact))
+
+  -- a test without faults is of this kind
+  test_well : (name word : Spot) → f.use_faults text known has_rule Requests name ++ f.test_word_faults text known has_rule Requests (characters text name) word ≡ []
       → All IsFact (facts_of_item (r.test_row text facts numbers name word))
   test_well name word none =
       let called = characters text name in
       let kind = kind_of called in
       let said = characters text word in
-      let before = f.use_faults text known no_rules Requests name in
-      let behind = f.test_word_faults text known no_rules Requests called word in
-      let found = use_known name (no_front before behind none) in
-      let unruled = known kind called && f.lacks_rule (no_rules called) (lie_of_word kind said) in
+      let before = f.use_faults text known has_rule Requests name in
+      let behind = f.test_word_faults text known has_rule Requests called word in
+      let unruled = known kind called && f.lacks_rule (has_rule called) (lie_of_word kind said) in
       let first = first_fine word (not (is_test kind said)) wrong_word ((unruled, no_pfm) ∷ []) (no_back before behind none) in
-      let second = first_fine word unruled no_pfm [] first.1 in
-      let lie : lie_of_word kind said ≡ None = no_lie called (known kind called) (lie_of_word kind said) found second.0 in
-      let some = is_by (is_some (lie_of_word kind said)) (fact_of_word kind said) (ap is_some lie) (not_true (is_test kind said) first.0) in
-      let fact = fact_is called said some.0 found some.1 in
-      let number = fact_number_of counts some.0.0 fact.0 in
-      let row : r.test_row text facts numbers name word ≡ item.Lit number some.0.1 =
-      ap (λ l. r.test_by text facts numbers called (r.fact_at text facts numbers name word) l) lie
-      ∙ ap (λ s. item.Lit (r.said_of text facts numbers called s).0 (r.said_of text facts numbers called s).1) some.1
-      ∙ ap (λ n. item.Lit n some.0.1) fact.2
-      in
-      subst (λ i. All IsFact (facts_of_item i)) (sym row)
-      (subst (All IsFact) (sym (lit_is (List ℕ) (List ℕ) item_facts cond_facts number some.0.1))
-      (All-cons IsFact number [] (fact_below counts some.0.0 fact.0 fact.1) (All-nil IsFact)))
+      test_by_lie called (fact_of_word kind said) (lie_of_word kind said) (use_known name (no_front before behind none)) (own_fact kind said) (not_true (is_test kind said) first.0)
 
   -- a command without faults commands a fact that requests may command
-  command_well : (command : CommandTree) → f.command_faults text known no_rules Requests command ≡ [] → IsRequestCommand (r.command_row text facts numbers command)
+  command_well : (command : CommandTree) → f.command_faults text known has_rule Requests command ≡ [] → IsRequestCommand (r.command_row text facts numbers command)
   command_well command none =
       let called = characters text command.name in
       let kind = kind_of called in
       let said = characters text command.word in
-      let before = f.use_faults text known no_rules Requests command.name in
-      let behind = f.command_word_faults text known no_rules Requests called command.word in
+      let before = f.use_faults text known has_rule Requests command.name in
+      let behind = f.command_word_faults text known has_rule Requests called command.word in
       let found = use_known command.name (no_front before behind none) in
       let elsewhere = not (may_command Requests (fact_of_word kind said)) in
       let first = first_fine command.word (not (is_some (fact_of_word kind said))) wrong_word ((elsewhere, not_in_this_file) ∷ []) (no_back before behind none) in
       let second = first_fine command.word elsewhere not_in_this_file [] first.1 in
       let some = some_said (fact_of_word kind said) (not_true (is_some (fact_of_word kind said)) first.0) in
-      let fact = fact_is called said some.0 found some.1 in
+      let fact = fact_is called some.0 found (own_fact kind said some.0 some.1) in
       record {
         kind = some.0.0;
         index = fact.0;
@@ -230,19 +222,19 @@ module _ (text : List ℕ) (names : Kind → List (List ℕ)) where
   -- ---- conditions
 
   abbrev ItemWell : ItemTree → Type 0
-  ItemWell tree = f.item_faults text known no_rules Requests tree ≡ [] → All IsFact (facts_of_item (r.item_row text facts numbers tree))
+  ItemWell tree = f.item_faults text known has_rule Requests tree ≡ [] → All IsFact (facts_of_item (r.item_row text facts numbers tree))
 
   abbrev CondWell : CondTree → Type 0
-  CondWell tree = f.cond_faults text known no_rules Requests tree ≡ [] → All IsFact (facts_tested (r.cond_row text facts numbers tree))
+  CondWell tree = f.cond_faults text known has_rule Requests tree ≡ [] → All IsFact (facts_tested (r.cond_row text facts numbers tree))
 
   at_test : (name word : Spot) → ItemWell (t.Test name word)
   at_test name word none =
       subst (λ i. All IsFact (facts_of_item i)) (sym (tree_test_is CondItem Cond (r.item_step text facts numbers) (r.cond_step text facts numbers) name word))
-      (test_well name word (sym (tree_test_is (List Fault) (List Fault) (f.item_step text known no_rules Requests) (f.cond_step text known no_rules Requests) name word) ∙ none))
+      (test_well name word (sym (tree_test_is (List Fault) (List Fault) (f.item_step text known has_rule Requests) (f.cond_step text known has_rule Requests) name word) ∙ none))
 
   at_bit : (number word : Spot) → ItemWell (t.Bit number word)
   at_bit number word none =
-      let one = sym (tree_bit_is (List Fault) (List Fault) (f.item_step text known no_rules Requests) (f.cond_step text known no_rules Requests) number word) ∙ none in
+      let one = sym (tree_bit_is (List Fault) (List Fault) (f.item_step text known has_rule Requests) (f.cond_step text known has_rule Requests) number word) ∙ none in
       absurd cc
 
   at_any : (conds : List CondTree) → AllByRecursion CondWell conds → ItemWell (t.Any conds)
@@ -250,35 +242,22 @@ module _ (text : List ℕ) (names : Kind → List (List ℕ)) where
       let rows = map (r.cond_row text facts numbers) conds in
       subst (λ i. All IsFact (facts_of_item i)) (sym (tree_any_is CondItem Cond (r.item_step text facts numbers) (r.cond_step text facts numbers) conds))
       (subst (All IsFact) (sym (any_is (List ℕ) (List ℕ) item_facts cond_facts rows))
-      (parts_well IsFact (f.cond_faults text known no_rules Requests) (r.cond_row text facts numbers) facts_tested conds each
-      (sym (tree_any_is (List Fault) (List Fault) (f.item_step text known no_rules Requests) (f.cond_step text known no_rules Requests) conds) ∙ none)))
+      (parts_well IsFact (f.cond_faults text known has_rule Requests) (r.cond_row text facts numbers) facts_tested conds each
+      (sym (tree_any_is (List Fault) (List Fault) (f.item_step text known has_rule Requests) (f.cond_step text known has_rule Requests) conds) ∙ none)))
 
   at_items : (items : List ItemTree) → AllByRecursion ItemWell items → CondWell (record { items = items })
   at_items items each none =
       let rows = map (r.item_row text facts numbers) items in
       subst (λ c. All IsFact (facts_tested c)) (sym (tree_cond_is CondItem Cond (r.item_step text facts numbers) (r.cond_step text facts numbers) items))
       (subst (All IsFact) (sym (cond_is (List ℕ) (List ℕ) item_facts cond_facts rows))
-      (parts_well IsFact (f.item_faults text known no_rules Requests) (r.item_row text facts numbers) facts_of_item items each
-      (sym (tree_cond_is (List Fault) (List Fault) (f.item_step text known no_rules Requests) (f.cond_step text known no_rules Requests) items) ∙ none)))
+      (parts_well IsFact (f.item_faults text known has_rule Requests) (r.item_row text facts numbers) facts_of_item items each
+      (sym (tree_cond_is (List Fault) (List Fault) (f.item_step text known has_rule Requests) (f.cond_step text known has_rule Requests) items) ∙ none)))
 
   -- a condition without faults tests facts that there are
   cond_well : (tree : CondTree) → CondWell tree
   cond_well = tree_cond_induction ItemWell CondWell at_test at_bit at_any at_items
 
   -- ---- bodies
-
-  -- what holds of a part of a body, and of a body: it tests facts that there are, and it commands facts that requests may command
-  abbrev TestsPart : PartTree → Type 0
-  TestsPart tree = f.part_faults text known no_rules Requests tree ≡ [] → All IsFact (facts_of_part (r.part_row text facts numbers tree))
-
-  abbrev TestsBody : BodyTree → Type 0
-  TestsBody tree = f.body_faults text known no_rules Requests tree ≡ [] → All IsFact (facts_of_guards (r.body_row text facts numbers tree))
-
-  abbrev CommandsPart : PartTree → Type 0
-  CommandsPart tree = f.part_faults text known no_rules Requests tree ≡ [] → All IsRequestCommand (commands_of_part (r.part_row text facts numbers tree))
-
-  abbrev CommandsBody : BodyTree → Type 0
-  CommandsBody tree = f.body_faults text known no_rules Requests tree ≡ [] → All IsRequestCommand (commands_of (r.body_row text facts numbers tree))
 
   -- the row and the faults of a command, of a choice and of a body
   do_row : (command : CommandTree) → r.part_row text facts numbers (p.Do command) ≡ part.Do (r.command_row text facts numbers command)
@@ -288,88 +267,68 @@ module _ (text : List ℕ) (names : Kind → List (List ℕ)) where
       ≡ part.If (r.cond_row text facts numbers guard) (r.body_row text facts numbers body) (option_map (r.body_row text facts numbers) other)
   if_row guard body other = tree_if_is BodyItem Body (r.part_step text facts numbers) (r.body_step text facts numbers) guard body other
 
-  if_faults : (guard : CondTree) (body : BodyTree) (other : Option BodyTree) → f.part_faults text known no_rules Requests (p.If guard body other) ≡ []
-      → f.cond_faults text known no_rules Requests guard ++ f.body_faults text known no_rules Requests body ++ f.else_faults (option_map (f.body_faults text known no_rules Requests) other) ≡ []
-  if_faults guard body other none = sym (tree_if_is (List Fault) (List Fault) (f.part_step text known no_rules Requests) (f.body_step text known no_rules Requests) guard body other) ∙ none
+  if_faults : (guard : CondTree) (body : BodyTree) (other : Option BodyTree) → f.part_faults text known has_rule Requests (p.If guard body other) ≡ []
+      → f.cond_faults text known has_rule Requests guard ++ f.body_faults text known has_rule Requests body ++ f.else_faults (option_map (f.body_faults text known has_rule Requests) other) ≡ []
+  if_faults guard body other none = sym (tree_if_is (List Fault) (List Fault) (f.part_step text known has_rule Requests) (f.body_step text known has_rule Requests) guard body other) ∙ none
 
-  body_faults_are : (parts : List PartTree) → f.body_faults text known no_rules Requests (record { parts = parts }) ≡ [] → joined (map (f.part_faults text known no_rules Requests) parts) ≡ []
-  body_faults_are parts none = sym (tree_body_is (List Fault) (List Fault) (f.part_step text known no_rules Requests) (f.body_step text known no_rules Requests) parts) ∙ none
+  body_faults_are : (parts : List PartTree) → f.body_faults text known has_rule Requests (record { parts = parts }) ≡ [] → joined (map (f.part_faults text known has_rule Requests) parts) ≡ []
+  body_faults_are parts none = sym (tree_body_is (List Fault) (List Fault) (f.part_step text known has_rule Requests) (f.body_step text known has_rule Requests) parts) ∙ none
 
   body_row_is : (parts : List PartTree) → r.body_row text facts numbers (record { parts = parts }) ≡ record { items = map (r.part_row text facts numbers) parts }
   body_row_is parts = tree_body_is BodyItem Body (r.part_step text facts numbers) (r.body_step text facts numbers) parts
 
-  tests_do : (command : CommandTree) → TestsPart (p.Do command)
-  tests_do command none =
-      subst (λ i. All IsFact (facts_of_part i)) (sym (do_row command))
-      (subst (All IsFact) (sym (do_is (List ℕ) (List ℕ) part_facts body_facts (r.command_row text facts numbers command))) (All-nil IsFact))
+  -- what holds of all that commands and guards without faults have, holds of all that a body without faults has
+  module _ (X : Type 0) (P : X → Type 0) (of_command : Cmd → List X) (of_guard : Cond → List X)
+      (commands : (command : CommandTree) → f.command_faults text known has_rule Requests command ≡ [] → All P (of_command (r.command_row text facts numbers command)))
+      (guards : (guard : CondTree) → f.cond_faults text known has_rule Requests guard ≡ [] → All P (of_guard (r.cond_row text facts numbers guard))) where
+    abbrev PartWell : PartTree → Type 0
+    PartWell tree = f.part_faults text known has_rule Requests tree ≡ [] → All P (had_by_part of_command of_guard (r.part_row text facts numbers tree))
 
-  tests_if : (guard : CondTree) (body : BodyTree) → TestsBody body → TestsPart (p.If guard body None)
-  tests_if guard body well none =
-      let g = f.cond_faults text known no_rules Requests guard in
-      let b = f.body_faults text known no_rules Requests body in
-      let both = no_front (g ++ b) [] (if_faults guard body None none) in
-      subst (λ i. All IsFact (facts_of_part i)) (sym (if_row guard body None))
-      (subst (All IsFact) (sym (if_is (List ℕ) (List ℕ) part_facts body_facts (r.cond_row text facts numbers guard) (r.body_row text facts numbers body) None))
-      (All-append IsFact (facts_tested (r.cond_row text facts numbers guard) ++ facts_of_guards (r.body_row text facts numbers body)) []
-      (All-append IsFact (facts_tested (r.cond_row text facts numbers guard)) (facts_of_guards (r.body_row text facts numbers body)) (cond_well guard (no_front g b both)) (well (no_back g b both)))
-      (All-nil IsFact)))
+    abbrev BodyWell : BodyTree → Type 0
+    BodyWell tree = f.body_faults text known has_rule Requests tree ≡ [] → All P (had_by of_command of_guard (r.body_row text facts numbers tree))
 
-  tests_if_else : (guard : CondTree) (body other : BodyTree) → TestsBody body → TestsBody other → TestsPart (p.If guard body (Some other))
-  tests_if_else guard body other well others none =
-      let g = f.cond_faults text known no_rules Requests guard in
-      let b = f.body_faults text known no_rules Requests body in
-      let o = f.body_faults text known no_rules Requests other in
-      let all = if_faults guard body (Some other) none in
-      let both = no_front (g ++ b) o all in
-      subst (λ i. All IsFact (facts_of_part i)) (sym (if_row guard body (Some other)))
-      (subst (All IsFact) (sym (if_is (List ℕ) (List ℕ) part_facts body_facts (r.cond_row text facts numbers guard) (r.body_row text facts numbers body) (Some (r.body_row text facts numbers other))))
-      (All-append IsFact (facts_tested (r.cond_row text facts numbers guard) ++ facts_of_guards (r.body_row text facts numbers body)) (facts_of_guards (r.body_row text facts numbers other))
-      (All-append IsFact (facts_tested (r.cond_row text facts numbers guard)) (facts_of_guards (r.body_row text facts numbers body)) (cond_well guard (no_front g b both)) (well (no_back g b both)))
-      (others (no_back (g ++ b) o all))))
+    at_do : (command : CommandTree) → PartWell (p.Do command)
+    at_do command none =
+        let row = r.command_row text facts numbers command in
+        subst (λ i. All P (had_by_part of_command of_guard i)) (sym (do_row command))
+        (subst (All P) (sym (do_is (List X) (List X) (part_has of_command of_guard) body_has row))
+        (commands command (sym (tree_do_is (List Fault) (List Fault) (f.part_step text known has_rule Requests) (f.body_step text known has_rule Requests) command) ∙ none)))
 
-  tests_parts : (parts : List PartTree) → AllByRecursion TestsPart parts → TestsBody (record { parts = parts })
-  tests_parts parts each none =
-      subst (λ b. All IsFact (facts_of_guards b)) (sym (body_row_is parts))
-      (subst (All IsFact) (sym (body_is (List ℕ) (List ℕ) part_facts body_facts (map (r.part_row text facts numbers) parts)))
-      (parts_well IsFact (f.part_faults text known no_rules Requests) (r.part_row text facts numbers) facts_of_part parts each (body_faults_are parts none)))
+    -- a choice, by its guard and its branches
+    at_choice : (guard : CondTree) (body : BodyTree) (other : Option BodyTree) (rest : List Fault) → f.else_faults (option_map (f.body_faults text known has_rule Requests) other) ≡ rest
+        → BodyWell body → (rest ≡ [] → All P (of_else (option_map (had_by of_command of_guard) (option_map (r.body_row text facts numbers) other)))) → PartWell (p.If guard body other)
+    at_choice guard body other rest is well others none =
+        let g = f.cond_faults text known has_rule Requests guard in
+        let b = f.body_faults text known has_rule Requests body in
+        let o = f.else_faults (option_map (f.body_faults text known has_rule Requests) other) in
+        let all = if_faults guard body other none in
+        let both = no_front (g ++ b) o all in
+        let guard_row = r.cond_row text facts numbers guard in
+        let body_row = r.body_row text facts numbers body in
+        let other_row = option_map (r.body_row text facts numbers) other in
+        let had = had_by of_command of_guard body_row in
+        subst (λ i. All P (had_by_part of_command of_guard i)) (sym (if_row guard body other))
+        (subst (All P) (sym (if_is (List X) (List X) (part_has of_command of_guard) body_has guard_row body_row other_row))
+        (All-append P (of_guard guard_row ++ had) (of_else (option_map (had_by of_command of_guard) other_row))
+        (All-append P (of_guard guard_row) had (guards guard (no_front g b both)) (well (no_back g b both))) (others (sym is ∙ no_back (g ++ b) o all))))
+
+    at_parts : (parts : List PartTree) → AllByRecursion PartWell parts → BodyWell (record { parts = parts })
+    at_parts parts each none =
+        subst (λ b. All P (had_by of_command of_guard b)) (sym (body_row_is parts))
+        (subst (All P) (sym (body_is (List X) (List X) (part_has of_command of_guard) body_has (map (r.part_row text facts numbers) parts)))
+        (parts_well P (f.part_faults text known has_rule Requests) (r.part_row text facts numbers) (had_by_part of_command of_guard) parts each (body_faults_are parts none)))
+
+    all_well : (tree : BodyTree) → BodyWell tree
+    all_well =
+        tree_body_induction PartWell BodyWell at_do (λ guard body well. at_choice guard body None [] refl well (λ none. All-nil P))
+        (λ guard body other well others. at_choice guard body (Some other) (f.body_faults text known has_rule Requests other) refl well others) at_parts
 
   -- a body without faults tests facts that there are
-  pub body_tests : (tree : BodyTree) → TestsBody tree
-  body_tests = tree_body_induction TestsPart TestsBody tests_do tests_if tests_if_else tests_parts
+  pub body_tests : (tree : BodyTree) → f.body_faults text known has_rule Requests tree ≡ [] → All IsFact (facts_of_guards (r.body_row text facts numbers tree))
+  body_tests = all_well ℕ IsFact (λ command. []) facts_tested (λ command none. All-nil IsFact) cond_well
 
-  commands_do : (command : CommandTree) → CommandsPart (p.Do command)
-  commands_do command none =
-      let row = r.command_row text facts numbers command in
-      subst (λ i. All IsRequestCommand (commands_of_part i)) (sym (do_row command))
-      (subst (All IsRequestCommand) (sym (do_is (List Cmd) (List Cmd) part_commands body_commands row))
-      (All-cons IsRequestCommand row []
-      (command_well command (sym (tree_do_is (List Fault) (List Fault) (f.part_step text known no_rules Requests) (f.body_step text known no_rules Requests) command) ∙ none)) (All-nil IsRequestCommand)))
-
-  commands_if : (guard : CondTree) (body : BodyTree) → CommandsBody body → CommandsPart (p.If guard body None)
-  commands_if guard body well none =
-      let g = f.cond_faults text known no_rules Requests guard in
-      let b = f.body_faults text known no_rules Requests body in
-      let both = no_front (g ++ b) [] (if_faults guard body None none) in
-      subst (λ i. All IsRequestCommand (commands_of_part i)) (sym (if_row guard body None))
-      (subst (All IsRequestCommand) (sym (if_is (List Cmd) (List Cmd) part_commands body_commands (r.cond_row text facts numbers guard) (r.body_row text facts numbers body) None))
-      (All-append IsRequestCommand (commands_of (r.body_row text facts numbers body)) [] (well (no_back g b both)) (All-nil IsRequestCommand)))
-
-  commands_if_else : (guard : CondTree) (body other : BodyTree) → CommandsBody body → CommandsBody other → CommandsPart (p.If guard body (Some other))
-  commands_if_else guard body other well others none =
-      let g = f.cond_faults text known no_rules Requests guard in
-      let b = f.body_faults text known no_rules Requests body in
-      let o = f.body_faults text known no_rules Requests other in
-      let all = if_faults guard body (Some other) none in
-      subst (λ i. All IsRequestCommand (commands_of_part i)) (sym (if_row guard body (Some other)))
-      (subst (All IsRequestCommand) (sym (if_is (List Cmd) (List Cmd) part_commands body_commands (r.cond_row text facts numbers guard) (r.body_row text facts numbers body) (Some (r.body_row text facts numbers other))))
-      (All-append IsRequestCommand (commands_of (r.body_row text facts numbers body)) (commands_of (r.body_row text facts numbers other)) (well (no_back g b (no_front (g ++ b) o all))) (others (no_back (g ++ b) o all))))
-
-  commands_parts : (parts : List PartTree) → AllByRecursion CommandsPart parts → CommandsBody (record { parts = parts })
-  commands_parts parts each none =
-      subst (λ b. All IsRequestCommand (commands_of b)) (sym (body_row_is parts))
-      (subst (All IsRequestCommand) (sym (body_is (List Cmd) (List Cmd) part_commands body_commands (map (r.part_row text facts numbers) parts)))
-      (parts_well IsRequestCommand (f.part_faults text known no_rules Requests) (r.part_row text facts numbers) commands_of_part parts each (body_faults_are parts none)))
-
-  -- a body without faults commands facts that requests may command
-  pub body_commands_well : (tree : BodyTree) → CommandsBody tree
-  body_commands_well = tree_body_induction CommandsPart CommandsBody commands_do commands_if commands_if_else commands_parts
+  -- and commands facts that requests may command
+  pub body_commands_well : (tree : BodyTree) → f.body_faults text known has_rule Requests tree ≡ [] → All IsRequestCommand (commands_of (r.body_row text facts numbers tree))
+  body_commands_well =
+      all_well Cmd IsRequestCommand (λ command. command ∷ []) (λ guard. [])
+      (λ command none. All-cons IsRequestCommand (r.command_row text facts numbers command) [] (command_well command none) (All-nil IsRequestCommand)) (λ guard none. All-nil IsRequestCommand)

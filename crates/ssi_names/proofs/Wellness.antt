@@ -212,8 +212,8 @@ request_well text tree earlier entry none filled =
     let row = request_row text names entry in
     record {
       filled = same_body text (fact_by_name (counts_by names) names) (number_by_name names) entry.1 ∙ filled;
-      tests = subst (λ counts. All (λ fact. fact < fact_count_of counts) (facts_of_guards row.body)) (counts_are text tree) (body_tests text names entry.1 body);
-      commands = subst (λ counts. All (λ (command : Cmd). IsRequestFact counts command.fact) (commands_of row.body)) (counts_are text tree) (body_commands_well text names entry.1 body);
+      tests = subst (λ counts. All (λ fact. fact < fact_count_of counts) (facts_of_guards row.body)) (counts_are text tree) (body_tests text names no_rules entry.1 body);
+      commands = subst (λ counts. All (λ (command : Cmd). IsRequestFact counts command.fact) (commands_of row.body)) (counts_are text tree) (body_commands_well text names no_rules entry.1 body);
     }
 
 -- a module without faults

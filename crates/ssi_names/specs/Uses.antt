@@ -35,32 +35,25 @@ facts_of_item = fold-CondItem (List ℕ) (List ℕ) item_facts cond_facts
 abbrev pub facts_tested : Cond → List ℕ
 facts_tested = fold-Cond (List ℕ) (List ℕ) item_facts cond_facts
 
--- the facts that the guards of a part of a body test, in written order
-abbrev pub part_facts : BodyItem-F (List ℕ) (List ℕ) → List ℕ
-part_facts (BodyItem-F.Do command) = []
-part_facts (BodyItem-F.If guard then_body else_body) = facts_tested guard ++ then_body ++ of_else else_body
+-- what a part of a body has: its own of a command, and of a choice that of the guard and of the branches, in written order
+abbrev pub part_has : {X : Type 0} → (Cmd → List X) → (Cond → List X) → BodyItem-F (List X) (List X) → List X
+part_has of_command of_guard (BodyItem-F.Do command) = of_command command
+part_has of_command of_guard (BodyItem-F.If guard then_body else_body) = of_guard guard ++ then_body ++ of_else else_body
 
-abbrev pub body_facts : Body-F (List ℕ) (List ℕ) → List ℕ
-body_facts body = flat body.items
+abbrev pub body_has : {X : Type 0} → Body-F (List X) (List X) → List X
+body_has body = flat body.items
 
-abbrev pub facts_of_part : BodyItem → List ℕ
-facts_of_part = fold-BodyItem (List ℕ) (List ℕ) part_facts body_facts
+-- the same of a whole part, and of a body
+abbrev pub had_by_part : {X : Type 0} → (Cmd → List X) → (Cond → List X) → BodyItem → List X
+had_by_part {X} of_command of_guard = fold-BodyItem (List X) (List X) (part_has of_command of_guard) body_has
+
+abbrev pub had_by : {X : Type 0} → (Cmd → List X) → (Cond → List X) → Body → List X
+had_by {X} of_command of_guard = fold-Body (List X) (List X) (part_has of_command of_guard) body_has
 
 -- the facts that the guards of a body test
 abbrev pub facts_of_guards : Body → List ℕ
-facts_of_guards = fold-Body (List ℕ) (List ℕ) part_facts body_facts
-
--- the commands of a part of a body, in written order
-abbrev pub part_commands : BodyItem-F (List Cmd) (List Cmd) → List Cmd
-part_commands (BodyItem-F.Do command) = command ∷ []
-part_commands (BodyItem-F.If guard then_body else_body) = then_body ++ of_else else_body
-
-abbrev pub body_commands : Body-F (List Cmd) (List Cmd) → List Cmd
-body_commands body = flat body.items
-
-abbrev pub commands_of_part : BodyItem → List Cmd
-commands_of_part = fold-BodyItem (List Cmd) (List Cmd) part_commands body_commands
+facts_of_guards = had_by (λ command. []) facts_tested
 
 -- the commands of a body
 abbrev pub commands_of : Body → List Cmd
-commands_of = fold-Body (List Cmd) (List Cmd) part_commands body_commands
+commands_of = had_by (λ command. command ∷ []) (λ guard. [])

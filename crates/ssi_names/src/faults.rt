@@ -7,7 +7,8 @@ ghost use Rattle.ssi_names.specs.Scopes.{AreLimited, request_row};
 ghost use Rattle.ssi_names.specs.Tables.{knows, rules, table_of, wires};
 
 use crate::fault::Fault;
-use crate::identities::{flags, points, routes, signals, subs, tracks};
+use crate::identities::{declarations, names};
+use crate::limits::{FLAGS, POINTS, ROUTES, SIGNALS, SUBS, TRACKS};
 use crate::modules::modules;
 use crate::requests::requests;
 use crate::scope::Scope;
@@ -39,12 +40,47 @@ fn identity_faults(
         faults.items ≡ faults_of_identities text.now (knows tables.now) (wires tables.now) tree.now) }
 {
     let mut faults = Vec::new(alloc);
-    points(alloc, text, tables, tree.points.as_slice(), &mut faults)?;
-    signals(alloc, text, tables, tree.signals.as_slice(), &mut faults)?;
-    tracks(alloc, text, tables, tree.tracks.as_slice(), &mut faults)?;
-    routes(alloc, text, tables, tree.routes.as_slice(), &mut faults)?;
-    subs(alloc, text, tables, tree.subs.as_slice(), &mut faults)?;
-    flags(alloc, text, tables, tree.flags.as_slice(), &mut faults)?;
+    declarations(
+        alloc,
+        text,
+        tables,
+        POINTS,
+        tree.points.as_slice(),
+        &mut faults,
+    )?;
+    names(
+        alloc,
+        text,
+        tables,
+        SIGNALS,
+        tree.signals.as_slice(),
+        &mut faults,
+    )?;
+    names(
+        alloc,
+        text,
+        tables,
+        TRACKS,
+        tree.tracks.as_slice(),
+        &mut faults,
+    )?;
+    declarations(
+        alloc,
+        text,
+        tables,
+        ROUTES,
+        tree.routes.as_slice(),
+        &mut faults,
+    )?;
+    declarations(alloc, text, tables, SUBS, tree.subs.as_slice(), &mut faults)?;
+    names(
+        alloc,
+        text,
+        tables,
+        FLAGS,
+        tree.flags.as_slice(),
+        &mut faults,
+    )?;
     modules(alloc, text, tables, tree.modules.as_slice(), &mut faults)?;
     Ok(faults)
 }
