@@ -121,7 +121,12 @@ fn no_names(alloc: Global) -> Tables
 pub fn tables_of(alloc: Global, text: &[u8], tree: &SourceTree) -> Result<Tables, OutOfMemory>
     ensures { IfOk result (AreTablesOf text.now tree.now) }
 {
-    tables_of_files(alloc, text, &tree.identities, tree.requests.entries.as_slice())
+    tables_of_files(
+        alloc,
+        text,
+        &tree.identities,
+        tree.requests.entries.as_slice(),
+    )
 }
 
 /// The tables of the files of identities and of PRR.
