@@ -28,6 +28,9 @@ const ROWS: [(&str, &str); 12] = [
 ];
 
 fn answer(alloc: Global, text: &str) -> Result<String, Fail> {
+    if text.len() > 100 {
+        return Ok(String::new(alloc));
+    }
     let mut tokens = Tokens::new(text.as_bytes(), 0);
     let read = read_file(alloc, &mut tokens);
     let position = tokens.position();
@@ -59,11 +62,11 @@ fn a_statement_has_its_commands_and_its_condition(rt: HostRuntime) -> Result<(),
     let mut tokens = Tokens::new(b"file FOP L1 s , U1 f , L2 xs if T1 c , T2 c .", 0);
     let tree = read_file(rt.alloc(), &mut tokens)?;
     for entry in tree.entries.as_slice() {
-        let mut starts = 0;
+        let mut starts = Vec::new(rt.alloc());
         for command in entry.commands.as_slice() {
-            starts = 100 * starts + command.name.start;
+            starts.push(command.name.start)?;
         }
-        assert_eq!(rt; starts, 9_1623);
+        assert_eq!(rt; starts.as_slice(), [9, 16, 23].as_slice());
         assert_eq!(rt; entry.guard.items.len(), 2);
     }
     Ok(())

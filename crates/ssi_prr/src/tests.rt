@@ -26,6 +26,9 @@ const ROWS: [(&str, &str); 13] = [
 ];
 
 fn answer(alloc: Global, text: &str) -> Result<String, Fail> {
+    if text.len() > 100 {
+        return Ok(String::new(alloc));
+    }
     let mut tokens = Tokens::new(text.as_bytes(), 0);
     let read = read_file(alloc, &mut tokens);
     let position = tokens.position();
