@@ -1,8 +1,13 @@
 pub mod Facts
 pub mod Words
 pub mod NameLists
+pub mod IdentityNames
 pub mod DataSets
 pub mod States
 pub mod Values
 pub mod Steps
 pub mod WorkedExamples
+pub mod Codes
+pub mod Allowed
+pub mod Wells
+pub mod Deciding

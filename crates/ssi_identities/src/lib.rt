@@ -14,8 +14,16 @@ mod fact;
 mod meaning;
 mod name;
 mod names;
+mod place;
 mod rule;
 mod state;
+mod well;
+mod well_bodies;
+mod well_conditions;
+mod well_modules;
+mod well_names;
+mod well_numbers;
+mod well_places;
 
 pub use data_set::{DataSet, ModuleRow, PointsRow, RequestRow, RouteRow, Stmt, SubRow};
 pub use fact::{
@@ -32,3 +40,5 @@ pub use state::{laws_of_the_start, start};
 
 #[cfg(test)]
 mod tests;
+#[cfg(test)]
+mod well_tests;

@@ -212,15 +212,20 @@ fn tracks_are_occupied_at_the_start(rt: HostRuntime) -> Result<(), Fail> {
 }
 
 /// A condition of one item.
-fn one_item(alloc: Global, item: CondItem) -> Result<Cond, Fail> {
+pub fn one_item(alloc: Global, item: CondItem) -> Result<Cond, Fail> {
     Ok(Cond {
         items: Items::from_vec(vec![in alloc; item]?),
     })
 }
 
-/// A module of points with the first points at its second pin, a condition on one of eight bits, and a
-/// body that sets the first flag by a bit of the report.
-fn small_module(alloc: Global) -> Result<ModuleRow, Fail> {
+/// A module of points, with a condition on one of eight bits, and a body that sets the first flag by a bit
+/// of the report.
+pub fn points_module(
+    alloc: Global,
+    address: u8,
+    first: Option<u16>,
+    second: Option<u16>,
+) -> Result<ModuleRow, Fail> {
     let is_high = CondItem::Bit {
         bit: 0,
         wanted: true,
@@ -242,9 +247,9 @@ fn small_module(alloc: Global) -> Result<ModuleRow, Fail> {
     };
     let output = Some(one_item(alloc, is_reverse)?);
     Ok(ModuleRow {
-        address: 5,
+        address,
         kind: 0,
-        pins: vec![in alloc; None, Some(0)]?,
+        pins: vec![in alloc; first, second]?,
         outputs: vec![in alloc; output, None, None, None, None, None, None, None]?,
         input: Some(Body {
             items: Items::from_vec(vec![in alloc; choice]?),
@@ -252,8 +257,33 @@ fn small_module(alloc: Global) -> Result<ModuleRow, Fail> {
     })
 }
 
+/// A module of this address and kind with these identities at its first two pins.
+pub fn other_module(
+    alloc: Global,
+    address: u8,
+    kind: u8,
+    first: Option<u16>,
+    second: Option<u16>,
+) -> Result<ModuleRow, Fail> {
+    Ok(ModuleRow {
+        address,
+        kind,
+        pins: vec![in alloc; first, second, None, None, None, None, None, None]?,
+        outputs: vec![in alloc; None, None, None, None, None, None, None, None]?,
+        input: None,
+    })
+}
+
+/// A module of points, one of signals and one of tracks.
+fn small_modules(alloc: Global) -> Result<Vec<ModuleRow>, Fail> {
+    let points = points_module(alloc, 5, Some(1), Some(0))?;
+    let signals = other_module(alloc, 6, 1, Some(0), None)?;
+    let tracks = other_module(alloc, 63, 2, Some(0), Some(1))?;
+    Ok(vec![in alloc; points, signals, tracks]?)
+}
+
 /// A statement that resets the first flag where the second points are free to move to normal or reverse.
-fn small_statement(alloc: Global) -> Result<Stmt, Fail> {
+pub fn small_statement(alloc: Global) -> Result<Stmt, Fail> {
     let normal = CondItem::Free {
         points: 1,
         reverse: false,
@@ -273,8 +303,9 @@ fn small_statement(alloc: Global) -> Result<Stmt, Fail> {
     })
 }
 
-/// Two points, the second free to move to reverse where the first track is clear.
-fn small_points(alloc: Global) -> Result<Vec<PointsRow>, Fail>
+/// Two points, the second free to move to normal by the condition, and to reverse where the first track is
+/// clear.
+pub fn small_points(alloc: Global, free_normal: Cond) -> Result<Vec<PointsRow>, Fail>
     ensures { IfOk result (λ rows. length rows.items ≡ 2) }
 {
     let is_clear = CondItem::Lit {
@@ -290,15 +321,42 @@ fn small_points(alloc: Global) -> Result<Vec<PointsRow>, Fail>
     let second = PointsRow {
         name: Name::new(b"P2"),
         tracks: vec![in alloc; 0, 1]?,
-        free_normal: None,
+        free_normal: Some(free_normal),
         free_reverse: Some(one_item(alloc, is_clear)?),
     };
     Ok(vec![in alloc; first, second]?)
 }
 
-/// Two points, a signal, two tracks, a route, two sub-routes, three flags, two requests, a statement and a
-/// module.
-fn small_data_set(alloc: Global) -> Result<DataSet, Fail>
+/// Two requests, the first of which sets the second flag, and the second the first.
+fn small_requests(alloc: Global) -> Result<Vec<RequestRow>, Fail>
+    ensures { IfOk result (λ rows. length rows.items ≡ 2) }
+{
+    let set_l2 = BodyItem::Do(Cmd {
+        fact: 14,
+        value: true,
+    });
+    let set_l1 = BodyItem::Do(Cmd {
+        fact: 13,
+        value: true,
+    });
+    let first = RequestRow {
+        name: Name::new(b"Q1"),
+        body: Body {
+            items: Items::from_vec(vec![in alloc; set_l2]?),
+        },
+    };
+    let second = RequestRow {
+        name: Name::new(b"QBCDEFGHIJ-12345"),
+        body: Body {
+            items: Items::from_vec(vec![in alloc; set_l1]?),
+        },
+    };
+    Ok(vec![in alloc; first, second]?)
+}
+
+/// Two points, a signal, two tracks, a route, two sub-routes, three flags, two requests, a statement and
+/// three modules. It is well.
+pub fn small_data_set(alloc: Global) -> Result<DataSet, Fail>
     ensures { IfOk result IsCountable }
 {
     let route = RouteRow {
@@ -316,32 +374,20 @@ fn small_data_set(alloc: Global) -> Result<DataSet, Fail>
         track: 1,
         lies: vec![in alloc; (0, true), (1, false)]?,
     };
-    let first_request = RequestRow {
-        name: Name::new(b"Q1"),
-        body: Body {
-            items: Items::new(alloc),
-        },
-    };
-    let set_l1 = BodyItem::Do(Cmd {
-        fact: 13,
-        value: true,
-    });
-    let second_request = RequestRow {
-        name: Name::new(b"QBCDEFGHIJ-12345"),
-        body: Body {
-            items: Items::from_vec(vec![in alloc; set_l1]?),
-        },
+    let is_occupied = CondItem::Lit {
+        fact: 8,
+        wanted: true,
     };
     Ok(DataSet {
-        points: small_points(alloc)?,
+        points: small_points(alloc, one_item(alloc, is_occupied)?)?,
         signals: vec![in alloc; Name::new(b"S1")]?,
         tracks: vec![in alloc; Name::new(b"T1"), Name::new(b"T2")]?,
         routes: vec![in alloc; route]?,
         subs: vec![in alloc; first_sub, second_sub]?,
         flags: vec![in alloc; Name::new(b"L1"), Name::new(b"L2"), Name::new(b"L3")]?,
-        requests: vec![in alloc; first_request, second_request]?,
+        requests: small_requests(alloc)?,
         statements: vec![in alloc; small_statement(alloc)?]?,
-        modules: vec![in alloc; small_module(alloc)?]?,
+        modules: small_modules(alloc)?,
     })
 }
 
