@@ -17,7 +17,7 @@ use Rattle.ssi_names.specs.Codes.{twice, block_twice, too_many, not_wired}
 use Rattle.ssi_names.specs.declared.fault.Fault.{Fault}
 use Rattle.ssi_names.specs.declared.rule_file.RuleFile.TheVariants.{Requests}
 use Rattle.ssi_names.specs.declared.tables.Tables.{Tables}
-use Rattle.ssi_names.specs.Declarations.{declared, is_declared_in, is_wired_in, no_rules}
+use Rattle.ssi_names.specs.Declarations.{declared, is_declared_in, is_wired_in, has_rule_in, has_module_in}
 use Rattle.ssi_names.specs.Faults as f
 use Rattle.ssi_names.specs.NameLists.{is_among, with_name, set_of}
 use Rattle.ssi_names.specs.Occurrences.{at, in_order}
@@ -124,68 +124,91 @@ name_fits text name_of limit earlier x none =
     declares (name_of x) (is_among (characters text (name_of x)) (map (λ e. characters text (name_of e)) earlier)) twice limit (length earlier) [] none
 
 -- the files without faults
-pub record NoFaults (text : List ℕ) (known : Kind → List ℕ → Bool) (wired : List ℕ → Bool) (tree : SourceText) : Type 0 where
-  pub points : in_order (f.points_faults text known wired) [] tree.identities.points ≡ []
-  pub signals : in_order (f.signal_faults text wired) [] tree.identities.signals ≡ []
-  pub tracks : in_order (f.track_faults text wired) [] tree.identities.tracks ≡ []
-  pub routes : in_order (f.route_faults text known) [] tree.identities.routes ≡ []
-  pub subs : in_order (f.sub_faults text known) [] tree.identities.subs ≡ []
+pub record NoFaults (text : List ℕ) (tree : SourceText) : Type 0 where
+  pub points : in_order (f.points_faults text (is_declared_in text tree) (is_wired_in text tree)) [] tree.identities.points ≡ []
+  pub signals : in_order (f.signal_faults text (is_wired_in text tree)) [] tree.identities.signals ≡ []
+  pub tracks : in_order (f.track_faults text (is_wired_in text tree)) [] tree.identities.tracks ≡ []
+  pub routes : in_order (f.route_faults text (is_declared_in text tree)) [] tree.identities.routes ≡ []
+  pub subs : in_order (f.sub_faults text (is_declared_in text tree)) [] tree.identities.subs ≡ []
   pub flags : in_order (f.flag_faults text) [] tree.identities.flags ≡ []
-  pub modules : in_order (f.module_faults text known) [] tree.identities.modules ≡ []
-  pub requests : in_order (f.request_faults text known no_rules) [] tree.requests ≡ []
+  pub modules : in_order (f.module_faults text (is_declared_in text tree)) [] tree.identities.modules ≡ []
+  pub requests : in_order (f.request_faults text (is_declared_in text tree) (has_rule_in text tree)) [] tree.requests ≡ []
+  pub moves : in_order (f.move_faults text (is_declared_in text tree) (has_rule_in text tree)) [] tree.free ≡ []
+  pub statements : in_order (f.statement_faults text (is_declared_in text tree) (has_rule_in text tree)) [] tree.statements ≡ []
+  pub outputs : in_order (f.output_faults text (is_declared_in text tree) (has_rule_in text tree) (has_module_in text tree)) [] tree.outputs ≡ []
+  pub inputs : in_order (f.input_faults text (is_declared_in text tree) (has_rule_in text tree) (has_module_in text tree)) [] tree.inputs ≡ []
 
--- where the faults of seven files are none, those of each are none
+-- where the faults of five files are none, those of each are none
+five : (a b c d e : List Fault) → a ++ b ++ c ++ d ++ e ≡ [] → (a ≡ []) × (b ≡ []) × (c ≡ []) × (d ≡ []) × (e ≡ [])
+five a b c d e none =
+    let four = no_front (a ++ b ++ c ++ d) e none in
+    let three = no_front (a ++ b ++ c) d four in
+    let two = no_front (a ++ b) c three in
+    (no_front a b two, no_back a b two, no_back (a ++ b) c three, no_back (a ++ b ++ c) d four, no_back (a ++ b ++ c ++ d) e none)
+
+-- and where those of seven are
 seven : (a b c d e g h : List Fault) → a ++ b ++ c ++ d ++ e ++ g ++ h ≡ [] → (a ≡ []) × (b ≡ []) × (c ≡ []) × (d ≡ []) × (e ≡ []) × (g ≡ []) × (h ≡ [])
 seven a b c d e g h none =
     let six = no_front (a ++ b ++ c ++ d ++ e ++ g) h none in
-    let five = no_front (a ++ b ++ c ++ d ++ e) g six in
-    let four = no_front (a ++ b ++ c ++ d) e five in
-    let three = no_front (a ++ b ++ c) d four in
-    let two = no_front (a ++ b) c three in
-    (no_front a b two, no_back a b two, no_back (a ++ b) c three, no_back (a ++ b ++ c) d four, no_back (a ++ b ++ c ++ d) e five, no_back (a ++ b ++ c ++ d ++ e) g six, no_back (a ++ b ++ c ++ d ++ e ++ g) h none)
+    let parts = five a b c d e (no_front (a ++ b ++ c ++ d ++ e) g six) in
+    (parts.0, parts.1, parts.2, parts.3, parts.4, no_back (a ++ b ++ c ++ d ++ e) g six, no_back (a ++ b ++ c ++ d ++ e ++ g) h none)
 
 -- where there are no faults, no file has one
-pub no_faults : (text : List ℕ) (known : Kind → List ℕ → Bool) (wired : List ℕ → Bool) (tree : SourceText) → f.faults_by text known wired no_rules tree ≡ [] → NoFaults text known wired tree
-no_faults text known wired tree none =
-    let files = f.identity_faults text known wired tree.identities in
-    let requests = in_order (f.request_faults text known no_rules) [] tree.requests in
-    let parts = seven _ _ _ _ _ _ _ (no_front files requests none) in
-    record { points = parts.0; signals = parts.1; tracks = parts.2; routes = parts.3; subs = parts.4; flags = parts.5; modules = parts.6; requests = no_back files requests none }
+pub no_faults : (text : List ℕ) (tree : SourceText) → f.faults_of text tree ≡ [] → NoFaults text tree
+no_faults text tree none =
+    let identities = f.identity_faults text (is_declared_in text tree) (is_wired_in text tree) tree.identities in
+    let rules = f.rule_faults text (is_declared_in text tree) (has_rule_in text tree) (has_module_in text tree) tree in
+    let first = seven _ _ _ _ _ _ _ (no_front identities rules none) in
+    let second = five _ _ _ _ _ (no_back identities rules none) in
+    record {
+      points = first.0;
+      signals = first.1;
+      tracks = first.2;
+      routes = first.3;
+      subs = first.4;
+      flags = first.5;
+      modules = first.6;
+      requests = second.0;
+      moves = second.1;
+      statements = second.2;
+      outputs = second.3;
+      inputs = second.4;
+    }
 
 -- those of points
-new_points : (text : List ℕ) (known : Kind → List ℕ → Bool) (wired : List ℕ → Bool) (tree : SourceText) → NoFaults text known wired tree → AreNew (declared text tree Points) 126
-new_points text known wired tree fine =
-    new_names (λ (e : PointsText). characters text e.name) 126 (f.points_faults text known wired)
-    (λ earlier x none. wired_fits text wired (λ (e : PointsText). e.name) 126 earlier x
-    (no_front (f.wired_name_faults text wired (λ (e : PointsText). e.name) 126 earlier x) (in_order (f.member_faults text (known Track) 4) [] x.tracks) none)) tree.identities.points fine.points
+new_points : (text : List ℕ) (tree : SourceText) → NoFaults text tree → AreNew (declared text tree Points) 126
+new_points text tree fine =
+    new_names (λ (e : PointsText). characters text e.name) 126 (f.points_faults text (is_declared_in text tree) (is_wired_in text tree))
+    (λ earlier x none. wired_fits text (is_wired_in text tree) (λ (e : PointsText). e.name) 126 earlier x
+    (no_front (f.wired_name_faults text (is_wired_in text tree) (λ (e : PointsText). e.name) 126 earlier x) (in_order (f.member_faults text (is_declared_in text tree Track) 4) [] x.tracks) none)) tree.identities.points fine.points
 
 -- those of routes
-new_routes : (text : List ℕ) (known : Kind → List ℕ → Bool) (wired : List ℕ → Bool) (tree : SourceText) → NoFaults text known wired tree → AreNew (declared text tree Route) 512
-new_routes text known wired tree fine =
-    new_names (λ (e : RouteText). characters text e.name) 512 (f.route_faults text known)
+new_routes : (text : List ℕ) (tree : SourceText) → NoFaults text tree → AreNew (declared text tree Route) 512
+new_routes text tree fine =
+    new_names (λ (e : RouteText). characters text e.name) 512 (f.route_faults text (is_declared_in text tree))
     (λ earlier x none.
     let name = f.name_faults text (λ (e : RouteText). e.name) 512 earlier x in
-    let signal = f.reference_faults text (known Signal) x.signal in
+    let signal = f.reference_faults text (is_declared_in text tree Signal) x.signal in
     name_fits text (λ (e : RouteText). e.name) 512 earlier x
-    (no_front name (signal ++ in_order (f.member_faults text (known Subroute) 32) [] x.subs) none)) tree.identities.routes fine.routes
+    (no_front name (signal ++ in_order (f.member_faults text (is_declared_in text tree Subroute) 32) [] x.subs) none)) tree.identities.routes fine.routes
 
 -- those of sub-routes
-new_subs : (text : List ℕ) (known : Kind → List ℕ → Bool) (wired : List ℕ → Bool) (tree : SourceText) → NoFaults text known wired tree → AreNew (declared text tree Subroute) 1024
-new_subs text known wired tree fine =
-    new_names (λ (e : SubText). characters text e.name) 1024 (f.sub_faults text known)
+new_subs : (text : List ℕ) (tree : SourceText) → NoFaults text tree → AreNew (declared text tree Subroute) 1024
+new_subs text tree fine =
+    new_names (λ (e : SubText). characters text e.name) 1024 (f.sub_faults text (is_declared_in text tree))
     (λ earlier x none.
     let name = f.name_faults text (λ (e : SubText). e.name) 1024 earlier x in
-    let track = f.reference_faults text (known Track) x.track in
+    let track = f.reference_faults text (is_declared_in text tree Track) x.track in
     name_fits text (λ (e : SubText). e.name) 1024 earlier x
-    (no_front name (track ++ in_order (f.lie_faults text (known Points)) [] x.lies) none)) tree.identities.subs fine.subs
+    (no_front name (track ++ in_order (f.lie_faults text (is_declared_in text tree Points)) [] x.lies) none)) tree.identities.subs fine.subs
 
 -- those of requests
-new_requests : (text : List ℕ) (known : Kind → List ℕ → Bool) (wired : List ℕ → Bool) (tree : SourceText) → NoFaults text known wired tree → AreNew (declared text tree Request) 1024
-new_requests text known wired tree fine =
-    new_names (λ (e : Spot × BodyTree). characters text e.0) 1024 (f.request_faults text known no_rules)
+new_requests : (text : List ℕ) (tree : SourceText) → NoFaults text tree → AreNew (declared text tree Request) 1024
+new_requests text tree fine =
+    new_names (λ (e : Spot × BodyTree). characters text e.0) 1024 (f.request_faults text (is_declared_in text tree) (has_rule_in text tree))
     (λ earlier x none.
     declares x.0 (is_among (characters text x.0) (map (λ e. characters text e.0) earlier)) block_twice 1024 (length earlier) []
-    (no_front (f.request_name_faults text earlier x.0) (body_faults text known no_rules Requests x.1) none)) tree.requests fine.requests
+    (no_front (f.request_name_faults text earlier x.0) (body_faults text (is_declared_in text tree) (has_rule_in text tree) Requests x.1) none)) tree.requests fine.requests
 
 -- the limit of a kind
 abbrev pub limit_of : Kind → ℕ
@@ -198,18 +221,18 @@ limit_of Flag = 512
 limit_of Request = 1024
 
 -- without faults the names of each kind are new
-all_kinds : (text : List ℕ) (known : Kind → List ℕ → Bool) (wired : List ℕ → Bool) (tree : SourceText) → NoFaults text known wired tree → (kind : Kind) → AreNew (declared text tree kind) (limit_of kind)
+all_kinds : (text : List ℕ) (tree : SourceText) → NoFaults text tree → (kind : Kind) → AreNew (declared text tree kind) (limit_of kind)
 unfolding IsDistinct
-all_kinds text known wired tree fine Points = new_points text known wired tree fine
-all_kinds text known wired tree fine Signal =
-    new_names (λ (e : Spot). characters text e) 504 (f.signal_faults text wired) (wired_fits text wired (λ (e : Spot). e) 504) tree.identities.signals fine.signals
-all_kinds text known wired tree fine Track =
-    new_names (λ (e : Spot). characters text e) 504 (f.track_faults text wired) (wired_fits text wired (λ (e : Spot). e) 504) tree.identities.tracks fine.tracks
-all_kinds text known wired tree fine Route = new_routes text known wired tree fine
-all_kinds text known wired tree fine Subroute = new_subs text known wired tree fine
-all_kinds text known wired tree fine Flag =
+all_kinds text tree fine Points = new_points text tree fine
+all_kinds text tree fine Signal =
+    new_names (λ (e : Spot). characters text e) 504 (f.signal_faults text (is_wired_in text tree)) (wired_fits text (is_wired_in text tree) (λ (e : Spot). e) 504) tree.identities.signals fine.signals
+all_kinds text tree fine Track =
+    new_names (λ (e : Spot). characters text e) 504 (f.track_faults text (is_wired_in text tree)) (wired_fits text (is_wired_in text tree) (λ (e : Spot). e) 504) tree.identities.tracks fine.tracks
+all_kinds text tree fine Route = new_routes text tree fine
+all_kinds text tree fine Subroute = new_subs text tree fine
+all_kinds text tree fine Flag =
     new_names (λ (e : Spot). characters text e) 512 (f.flag_faults text) (name_fits text (λ (e : Spot). e) 512) tree.identities.flags fine.flags
-all_kinds text known wired tree fine Request = new_requests text known wired tree fine
+all_kinds text tree fine Request = new_requests text tree fine
 
 -- no limit is past 1024
 few_of_each : (kind : Kind) → limit_of kind ≤ 1024
@@ -218,7 +241,7 @@ few_of_each kind = elim kind as (λ k. limit_of k ≤ 1024)
 
 -- where there are no faults the names of each kind are new
 pub new_of : (text : List ℕ) (tree : SourceText) → f.faults_of text tree ≡ [] → (kind : Kind) → AreNew (declared text tree kind) (limit_of kind)
-new_of text tree none = all_kinds text (is_declared_in text tree) (is_wired_in text tree) tree (no_faults text (is_declared_in text tree) (is_wired_in text tree) tree none)
+new_of text tree none = all_kinds text tree (no_faults text tree none)
 
 -- without faults a table is the list of the names that are declared
 table_is : (text : List ℕ) (tree : SourceText) (tables : Tables) → AreTablesOf text tree tables → f.faults_of text tree ≡ [] → (kind : Kind) → table_of tables kind ≡ declared text tree kind

@@ -7,12 +7,10 @@ use Rattle.std.proofs.lemmas.Bool.Decides.{nat_tests}
 use Rattle.std.proofs.lemmas.List.Elements.{All-head, All-tail}
 use Rattle.std.proofs.lemmas.Slice.Eq.{bytes_eq-Decides}
 use Rattle.ssi_identities.specs.declared.fact.Kind.TheVariants.{Points, Signal, Track}
-use Rattle.ssi_lexer.specs.TokenTests.{begins_with}
+use Rattle.ssi_identities.specs.IdentityNames.{letter_of}
+use Rattle.ssi_identities.specs.Wells.{wired_kind}
 use Rattle.ssi_names.specs.NameLists.{is_among}
-use Rattle.ssi_names.specs.Well.{wired_kind}
-use Rattle.ssi_names.specs.Words.{letter_of}
 use Rattle.ssi_names.proofs.Distinct.{differ_by, other_way, place_tells}
-use Rattle.ssi_names.proofs.Sets.{or_false}
 
 -- ---- names and their places
 
@@ -58,15 +56,7 @@ among_all P (n ∷ names) name all found = among_by P name n (bytes_eq name n) (
 
 -- ---- letters
 
-first_letter : (c d : ℕ) (name : List ℕ) → begins_with (c ∷ []) name ≡ true → begins_with (d ∷ []) name ≡ true → c ≡ d
-first_letter c d [] e h = absurd cc
-first_letter c d (first ∷ []) e h = absurd cc
-first_letter c d (first ∷ second ∷ name) e h =
-    let one : (c == first) ≡ true = sym (or_false (c == first)) ∙ e in
-    let two : (d == first) ≡ true = sym (or_false (d == first)) ∙ h in
-    grind (arith, nat_tests)
-
--- the letter of the identities at a module's pins, by the number of the module's kind
+-- the number of the letter of the identities at a module's pins, by the number of the module's kind
 abbrev letter_number : ℕ → ℕ
 letter_number kind = if kind == 0 then 80 else if kind == 1 then 83 else 84
 
@@ -84,9 +74,9 @@ kind_back (suc zero) few = refl
 kind_back (suc (suc zero)) few = refl
 kind_back (suc (suc (suc kind))) few = absurd (omega (arith, few))
 
--- a name is of one kind
-pub one_kind : (a b : ℕ) (name : List ℕ) → a ≤ 2 → b ≤ 2 → begins_with (letter_of (wired_kind a)) name ≡ true → begins_with (letter_of (wired_kind b)) name ≡ true → a ≡ b
-one_kind a b name few small e h =
-    let one = ap (λ letters. begins_with letters name) (sym (letter_by (a == 0) (a == 1))) ∙ e in
-    let two = ap (λ letters. begins_with letters name) (sym (letter_by (b == 0) (b == 1))) ∙ h in
-    sym (kind_back a few) ∙ ap kind_of_letter (first_letter (letter_number a) (letter_number b) name one two) ∙ kind_back b small
+-- kinds with one letter are one
+pub one_kind : (a b : ℕ) → a ≤ 2 → b ≤ 2 → letter_of (wired_kind a) ≡ letter_of (wired_kind b) → a ≡ b
+one_kind a b few small e =
+    let same : letter_number a ∷ [] ≡ letter_number b ∷ [] = sym (letter_by (a == 0) (a == 1)) ∙ e ∙ letter_by (b == 0) (b == 1) in
+    let one : letter_number a ≡ letter_number b = cc in
+    sym (kind_back a few) ∙ ap kind_of_letter one ∙ kind_back b small

@@ -3,6 +3,7 @@ use Rattle.std.proofs.Common.{◌≡◌, ℕ, zero, suc, ◌+◌, ◌≤◌, ◌
 use Rattle.std.specs.Prelude.{⊤, All, nat_le}
 use Rattle.std.specs.List.{count_by, list_any}
 use Rattle.std.specs.Str.{bytes_eq}
+use Rattle.std.proofs.lemmas.Bool.{not-false}
 use Rattle.std.proofs.lemmas.Grind.{flat_map-append}
 use Rattle.std.proofs.lemmas.List.{append-nil, map-append}
 use Rattle.std.proofs.lemmas.List.Elements.{All-head, All-tail, All-map}
@@ -11,6 +12,7 @@ use Rattle.std.proofs.lemmas.List.Sums.{sum_by-cons}
 use Rattle.std.proofs.lemmas.Slice.Eq.{bytes_eq-Decides}
 use Rattle.ssi_identities.specs.declared.fact.Kind.{Kind}
 use Rattle.ssi_identities.specs.declared.fact.Kind.TheVariants.{Track}
+use Rattle.ssi_identities.specs.Wells.{wired_kind}
 use Rattle.ssi_terms.specs.declared.tree.Spot.{Spot}
 use Rattle.ssi_terms.specs.Trees.{PointsText, ModuleText}
 use Rattle.ssi_names.specs.Codes.{unknown, twice, not_wired, wired_twice, too_many}
@@ -20,10 +22,9 @@ use Rattle.ssi_names.specs.NameLists.{is_among}
 use Rattle.ssi_names.specs.Occurrences.{at, in_order}
 use Rattle.ssi_names.specs.SourceTexts.{SourceText}
 use Rattle.ssi_names.specs.Texts.{characters}
-use Rattle.ssi_names.specs.Well.{wired_kind}
 use Rattle.ssi_names.proofs.Fine.{no_front, no_back, first_fine, each_fine, no_faults}
 use Rattle.ssi_names.proofs.Sets.{or_false}
-use Rattle.ssi_names.proofs.WellModules.{not_unknown, pins_fine}
+use Rattle.ssi_names.proofs.WellModules.{pins_fine}
 
 -- ---- counts
 
@@ -132,7 +133,7 @@ third_fine : (spot : Spot) (again : Bool) (limit count : ℕ) (wired : Bool) →
 third_fine spot again limit count wired none =
     let first = first_fine spot again twice ((nat_le limit count, too_many) ∷ (not wired, not_wired) ∷ []) none in
     let second = first_fine spot (nat_le limit count) too_many ((not wired, not_wired) ∷ []) first.1 in
-    not_unknown wired (first_fine spot (not wired) not_wired [] second.1).0
+    not-false wired (first_fine spot (not wired) not_wired [] second.1).0
 
 name_wired : {X : Type 0} (text : List ℕ) (wired : List ℕ → Bool) (name_of : X → Spot) (limit : ℕ) (earlier : List X) (x : X) → f.wired_name_faults text wired name_of limit earlier x ≡ []
     → wired (characters text (name_of x)) ≡ true
@@ -148,15 +149,15 @@ all_wired text tree zero few none =
     (each_fine (f.points_faults text known wired) (λ (e : PointsText). wired (characters text e.name) ≡ true)
     (λ earlier e fine. name_wired text wired (λ (e : PointsText). e.name) 126 earlier e
     (no_front (f.wired_name_faults text wired (λ (e : PointsText). e.name) 126 earlier e) (in_order (f.member_faults text (known Track) 4) [] e.tracks) fine))
-    [] tree.identities.points (no_faults text known wired tree none).points)
+    [] tree.identities.points (no_faults text tree none).points)
 all_wired text tree (suc zero) few none =
     let wired = is_wired_in text tree in
     All-map (λ name. wired name ≡ true) (λ (e : Spot). characters text e) tree.identities.signals
     (each_fine (f.signal_faults text wired) (λ (e : Spot). wired (characters text e) ≡ true) (name_wired text wired (λ (e : Spot). e) 504)
-    [] tree.identities.signals (no_faults text (is_declared_in text tree) wired tree none).signals)
+    [] tree.identities.signals (no_faults text tree none).signals)
 all_wired text tree (suc (suc zero)) few none =
     let wired = is_wired_in text tree in
     All-map (λ name. wired name ≡ true) (λ (e : Spot). characters text e) tree.identities.tracks
     (each_fine (f.track_faults text wired) (λ (e : Spot). wired (characters text e) ≡ true) (name_wired text wired (λ (e : Spot). e) 504)
-    [] tree.identities.tracks (no_faults text (is_declared_in text tree) wired tree none).tracks)
+    [] tree.identities.tracks (no_faults text tree none).tracks)
 all_wired text tree (suc (suc (suc kind))) few none = absurd (omega (arith, few))

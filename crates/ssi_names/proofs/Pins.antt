@@ -30,7 +30,7 @@ pin_test_by count n used numbers false e few marked =
     ap (λ b. b || slice_index_or used (min n 255) false) is ∙ was_marked 8 used numbers n (omega arith) marked within
 
 -- whether a pin is bad, by the marks and by the list
-pin_test : (count n : ℕ) (used : List Bool) (numbers : List ℕ) → count ≤ 8 → IsMarked 8 used numbers
+pub pin_test : (count n : ℕ) (used : List Bool) (numbers : List ℕ) → count ≤ 8 → IsMarked 8 used numbers
     → (nat_le count (min n 255) || slice_index_or used (min n 255) false) ≡ (nat_le count n || is_number_among n numbers)
 pin_test count n used numbers few marked = pin_test_by count n used numbers (nat_le count n) refl few marked
 

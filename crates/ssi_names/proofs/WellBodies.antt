@@ -1,334 +1,208 @@
--- Bodies without faults: their tests are of facts that there are, and their commands of facts that requests may command.
-use Rattle.std.proofs.Common.{◌≡◌, ℕ, ◌<◌, ◌&&◌, ◌||◌, Bool, true, false, not, List, [], ◌∷◌, ◌++◌, length, map, Option, Some, None, is_some, cond, refl, ap, sym, subst, ◌∙◌, arith}
-use Rattle.std.specs.Prelude.{All, position, nat_lt}
-use Rattle.std.specs.List.{AllByRecursion, position_or_len}
+-- Bodies and commands that are spelled and have no faults are well.
+use Rattle.std.proofs.Common.{◌≡◌, ℕ, zero, suc, ◌+◌, ◌*◌, ◌≤◌, Bool, true, not, List, [], ◌∷◌, ◌++◌, length, map, Option, refl, ap, sym, subst, ◌∙◌, arith}
+use Rattle.std.specs.Cmp.Derive.{both_true}
 use Rattle.std.specs.Option.{option_map}
-use Rattle.std.specs.Str.{bytes_eq}
-use Rattle.std.proofs.lemmas.Bool.Decides.{nat_tests}
-use Rattle.std.proofs.lemmas.List.Elements.{All-nil, All-cons, All-head, All-tail}
-use Rattle.std.proofs.lemmas.Simd.{map-map}
-use Rattle.ssi_identities.specs.declared.fact.Counts.{Counts}
+use Rattle.std.proofs.Math.Nat.{max-le}
+use Rattle.std.proofs.lemmas.Bool.{le-leb}
+use Rattle.std.proofs.lemmas.List.{length-append, length-map}
+use Rattle.ssi_identities.specs.Allowed.{BodyScope, else_within, part_within, body_within, is_part_within, is_body_within, else_levels, part_levels, body_levels, part_depth, body_depth, IsWellBody, body_of_commands}
+use Rattle.ssi_identities.specs.Codes.{with_length, else_code, part_code, body_code, code_of_part, code_of_body}
 use Rattle.ssi_identities.specs.declared.fact.Kind.{Kind}
-use Rattle.ssi_identities.specs.declared.fact.Kind.TheVariants.{Points, Signal, Track, Route, Subroute, Flag, Request}
-use Rattle.ssi_identities.specs.declared.fact.FactKind.{FactKind}
-use Rattle.ssi_identities.specs.declared.fact.FactKind.TheVariants.{Reverse, DetectedNormal, DetectedReverse, Lamp, Occupied, RouteSet, RouteBarred, Locked, FlagSet}
-use Rattle.ssi_identities.specs.declared.rule.CondItem.{CondItem}
-use Rattle.ssi_identities.specs.declared.rule.CondItem.TheVariants as item
-use Rattle.ssi_identities.specs.declared.rule.Cond.{Cond}
-use Rattle.ssi_identities.specs.declared.rule.Cmd.{Cmd}
 use Rattle.ssi_identities.specs.declared.rule.BodyItem.{BodyItem}
 use Rattle.ssi_identities.specs.declared.rule.BodyItem.TheVariants as part
 use Rattle.ssi_identities.specs.declared.rule.Body.{Body}
-use Rattle.ssi_identities.specs.Facts.{count_of, fact_count_of, fact_number_of, identity_of}
-use Rattle.ssi_identities.proofs.Conditions.{cond_is, lit_is, free_is, any_is}
-use Rattle.ssi_identities.proofs.Bodies.{body_is, do_is, if_is}
-use Rattle.ssi_terms.specs.declared.tree.Spot.{Spot}
+use Rattle.ssi_lexer.specs.Languages.{Listed, last, and_more, Optional, absent, present}
+use Rattle.ssi_lexer.specs.Lexemes.{Lexeme}
+use Rattle.ssi_lexer.specs.TokenTests.{comma}
 use Rattle.ssi_terms.specs.declared.tree.CommandTree.{CommandTree}
-use Rattle.ssi_terms.specs.declared.tree.ItemTree.{ItemTree}
-use Rattle.ssi_terms.specs.declared.tree.ItemTree.TheVariants as t
 use Rattle.ssi_terms.specs.declared.tree.CondTree.{CondTree}
 use Rattle.ssi_terms.specs.declared.tree.PartTree.{PartTree}
 use Rattle.ssi_terms.specs.declared.tree.PartTree.TheVariants as p
 use Rattle.ssi_terms.specs.declared.tree.BodyTree.{BodyTree}
+use Rattle.ssi_terms.specs.Grammar.{deepest, SpellsCond, SpellsCommand, a_command, PartOf, a_do, an_if, BodyOf, ElseOf, an_else, ChoiceOf, a_choice, SpellsChoice, SpellsBodyBy}
 use Rattle.ssi_names.specs.Bodies as f
 use Rattle.ssi_names.specs.BodyRows as r
-use Rattle.ssi_names.specs.Codes.{unknown, wrong_word, not_in_this_file, no_pfm}
+use Rattle.ssi_names.specs.Codes.{unknown}
 use Rattle.ssi_names.specs.declared.fault.Fault.{Fault}
-use Rattle.ssi_names.specs.NameLists.{is_among}
-use Rattle.ssi_names.specs.Occurrences.{joined}
-use Rattle.ssi_names.specs.declared.rule_file.RuleFile.TheVariants.{Requests}
-use Rattle.ssi_names.specs.Rows.{counts_by, number_at, fact_by_name, number_by_name}
+use Rattle.ssi_names.specs.declared.rule_file.RuleFile.{RuleFile}
+use Rattle.ssi_names.specs.Formed.{IsSpelledBody, AreSpelledCommands}
+use Rattle.ssi_names.specs.Occurrences.{at, joined}
+use Rattle.ssi_names.specs.Rows.{number_by_name}
 use Rattle.ssi_names.specs.Texts.{characters}
-use Rattle.ssi_names.specs.Uses.{flat, item_facts, cond_facts, facts_of_item, facts_tested, of_else, part_has, body_has, had_by_part, had_by, facts_of_guards, commands_of}
-use Rattle.ssi_names.specs.Well.{IsRequestFact}
-use Rattle.ssi_names.specs.Words.{kind_of, facts_of_kind, said_by, fact_of_word, lie_of_word, is_test, may_command}
-use Rattle.ssi_names.proofs.BodyTrees.{tree_body_is, tree_do_is, tree_if_is, tree_body_induction}
-use Rattle.ssi_names.proofs.CondTrees.{tree_cond_is, tree_test_is, tree_bit_is, tree_any_is, tree_cond_induction}
-use Rattle.ssi_names.proofs.Distinct.{place_below}
+use Rattle.ssi_names.specs.Words.{kind_of}
+use Rattle.ssi_names.proofs.BodyTrees.{tree_body_is, tree_do_is, tree_if_is}
 use Rattle.ssi_names.proofs.Fine.{no_front, no_back, first_fine}
+use Rattle.ssi_names.proofs.GoodTrees.{Measures, IsGood, listed_good}
+use Rattle.ssi_names.proofs.RowFolds.{row_of_do, row_of_if, row_of_body}
+use Rattle.ssi_names.proofs.WellConds.{conds, cond_spelled}
+use Rattle.ssi_names.proofs.WellWords.{AllowsBodies, known, facts, command_allowed}
 
--- ---- facts by words
+-- how long the code of a choice is
+choice_long : (guard body other : List ℕ) → length (0x22 ∷ with_length (with_length guard ++ (with_length body ++ other))) ≡ 13 + length guard + length body + length other
+choice_long guard body other = omega (arith, length-append (with_length guard) (with_length body ++ other), length-append (with_length body) other)
 
--- the facts of a kind are of identities of the kind
-own_facts : (kind : Kind) → AllByRecursion (λ fact. identity_of fact ≡ kind) (facts_of_kind kind)
-own_facts kind = elim kind as (λ k. AllByRecursion (λ fact. identity_of fact ≡ k) (facts_of_kind k)) [
-  | Points ↦ (refl, (refl, (refl, tt)))
-  | Signal ↦ (refl, tt)
-  | Track ↦ (refl, tt)
-  | Route ↦ (refl, (refl, tt))
-  | Subroute ↦ (refl, tt)
-  | Flag ↦ (refl, tt)
-  | Request ↦ tt
-]
+-- a body, by the text, by the names of each kind, by which lies of points have a rule, by its file, and by what it may name
+module _ (text : List ℕ) (names : Kind → List (List ℕ)) (has_rule : List ℕ → Bool → Bool) (file : RuleFile) (scope : BodyScope) (allows : AllowsBodies text names has_rule file scope) where
+  -- the row of a part and of a body
+  abbrev part_row : PartTree → BodyItem
+  part_row = r.part_row text (facts names) (number_by_name names)
 
-said_is_by : (kind : Kind) (fact : FactKind) (facts : List FactKind) (word : List ℕ) (said : FactKind × Bool) (first second : Bool) → identity_of fact ≡ kind
-    → (said_by facts word ≡ Some said → identity_of said.0 ≡ kind)
-    → cond first (Some (fact, true)) (cond second (Some (fact, false)) (said_by facts word)) ≡ Some said → identity_of said.0 ≡ kind
-said_is_by kind fact facts word said true second own rest e = let same : fact ≡ said.0 = cc in ap identity_of (sym same) ∙ own
-said_is_by kind fact facts word said false true own rest e = let same : fact ≡ said.0 = cc in ap identity_of (sym same) ∙ own
-said_is_by kind fact facts word said false false own rest e = rest e
+  abbrev body_row : BodyTree → Body
+  body_row = r.body_row text (facts names) (number_by_name names)
 
--- what a word says is a fact of an identity of the kind
-said_of_kind : (kind : Kind) (facts : List FactKind) (word : List ℕ) (said : FactKind × Bool) → AllByRecursion (λ fact. identity_of fact ≡ kind) facts → said_by facts word ≡ Some said
-    → identity_of said.0 ≡ kind
-said_of_kind kind [] word said own e = absurd cc
-said_of_kind kind (fact ∷ facts) word said own e = said_is_by kind fact facts word said _ _ own.0 (said_of_kind kind facts word said own.1) e
+  -- what is measured of guards, parts and bodies
+  abbrev guards : Measures CondTree
+  guards = conds text names has_rule file scope.guards allows.guards
 
--- so is what a word says of an identity of the kind
-own_fact : (kind : Kind) (word : List ℕ) (said : FactKind × Bool) → fact_of_word kind word ≡ Some said → identity_of said.0 ≡ kind
-own_fact kind word said is = said_of_kind kind (facts_of_kind kind) word said (own_facts kind) is
+  abbrev parts : Measures PartTree
+  parts = record {
+    faults = f.part_faults text (known names) has_rule file;
+    within = λ part. is_part_within scope (part_row part);
+    depth = λ part. part_depth (part_row part);
+    code = λ part. code_of_part (part_row part);
+  }
 
--- as many identities have a fact as there are names of its kind
-counted : (names : Kind → List (List ℕ)) (fact : FactKind) → count_of (counts_by names) fact ≡ length (names (identity_of fact))
-counted names fact = elim fact as (λ k. count_of (counts_by names) k ≡ length (names (identity_of k)))
-    [ Reverse ↦ refl | DetectedNormal ↦ refl | DetectedReverse ↦ refl | Lamp ↦ refl | Occupied ↦ refl | RouteSet ↦ refl | RouteBarred ↦ refl | Locked ↦ refl | FlagSet ↦ refl ]
+  abbrev bodies : Measures BodyTree
+  bodies = record {
+    faults = f.body_faults text (known names) has_rule file;
+    within = λ body. is_body_within scope (body_row body);
+    depth = λ body. body_depth (body_row body);
+    code = λ body. code_of_body (body_row body);
+  }
 
--- the number of a fact of an identity that there is, is below the count of facts
-fact_below : (counts : Counts) (fact : FactKind) (index : ℕ) → index < count_of counts fact → fact_number_of counts fact index < fact_count_of counts
-fact_below counts fact index = elim fact as (λ k. index < count_of counts k → fact_number_of counts k index < fact_count_of counts) [
-  | Reverse ↦ (λ b. omega (arith, b))
-  | DetectedNormal ↦ (λ b. omega (arith, b))
-  | DetectedReverse ↦ (λ b. omega (arith, b))
-  | Lamp ↦ (λ b. omega (arith, b))
-  | Occupied ↦ (λ b. omega (arith, b))
-  | RouteSet ↦ (λ b. omega (arith, b))
-  | RouteBarred ↦ (λ b. omega (arith, b))
-  | Locked ↦ (λ b. omega (arith, b))
-  | FlagSet ↦ (λ b. omega (arith, b))
-]
-
--- a name that is there has its place
-place_is : (names : List (List ℕ)) (name : List ℕ) → is_among name names ≡ true → position (bytes_eq name) names ≡ Some (position_or_len (bytes_eq name) names)
-place_is names name found =
-    let below = place_below names name found in
-    let is : nat_lt (position_or_len (bytes_eq name) names) (length names) ≡ true = grind (arith, nat_tests) in
-    rw is refl
-
--- ---- lines without faults
-
-not_true : (b : Bool) → not b ≡ false → b ≡ true
-not_true true e = refl
-not_true false e = absurd cc
-
-some_said : (said : Option (FactKind × Bool)) → is_some said ≡ true → (s : FactKind × Bool) × (said ≡ Some s)
-some_said None e = absurd cc
-some_said (Some s) e = (s, refl)
-
--- each part of a list without faults has none
-each_none : {X : Type 0} (faults : X → List Fault) (P : X → Type 0) (xs : List X) → AllByRecursion (λ x. faults x ≡ [] → P x) xs → joined (map faults xs) ≡ [] → AllByRecursion P xs
-each_none faults P [] each none = tt
-each_none faults P (x ∷ xs) each none =
-    (each.0 (no_front (faults x) (joined (map faults xs)) none), each_none faults P xs each.1 (no_back (faults x) (joined (map faults xs)) none))
-
--- what holds of all of two lists one after another
-All-append : {X : Type 0} (P : X → Type 0) (xs ys : List X) → All P xs → All P ys → All P (xs ++ ys)
-All-append P [] ys all others = others
-All-append P (x ∷ xs) ys all others = All-cons P x (xs ++ ys) (All-head P x xs all) (All-append P xs ys (All-tail P x xs all) others)
-
--- and of several
-All-flat : {X Y : Type 0} (P : Y → Type 0) (list_of : X → List Y) (xs : List X) → AllByRecursion (λ x. All P (list_of x)) xs → All P (flat (map list_of xs))
-All-flat P list_of [] each = All-nil P
-All-flat P list_of (x ∷ xs) each = All-append P (list_of x) (flat (map list_of xs)) each.0 (All-flat P list_of xs each.1)
-
--- so what holds of what each part's row has, holds of what all rows have
-parts_well : {X Y Z : Type 0} (P : Z → Type 0) (faults : X → List Fault) (row : X → Y) (list_of : Y → List Z) (xs : List X)
-    → AllByRecursion (λ x. faults x ≡ [] → All P (list_of (row x))) xs → joined (map faults xs) ≡ [] → All P (flat (map list_of (map row xs)))
-parts_well P faults row list_of xs each none =
-    subst (λ lists. All P (flat lists)) (sym (map-map list_of row xs)) (All-flat P (λ x. list_of (row x)) xs (each_none faults (λ x. All P (list_of (row x))) xs each none))
-
-module _ (text : List ℕ) (names : Kind → List (List ℕ)) (has_rule : List ℕ → Bool → Bool) where
-  abbrev known : Kind → List ℕ → Bool
-  known kind name = is_among name (names kind)
-
-  abbrev counts : Counts
-  counts = counts_by names
-
-  -- the number of a fact of the identity with a name, and the number of a name
-  abbrev facts : FactKind → List ℕ → ℕ
-  facts = fact_by_name counts names
-
-  abbrev numbers : List ℕ → ℕ
-  numbers = number_by_name names
-
-  -- a declared name and a fact of its kind: the fact is one of the identity's
-  fact_is : (name : List ℕ) (said : FactKind × Bool) → known (kind_of name) name ≡ true → identity_of said.0 ≡ kind_of name
-      → (index : ℕ) × (index < count_of counts said.0) × (facts said.0 name ≡ fact_number_of counts said.0 index)
-  fact_is name said found own =
-      let kind = kind_of name in
-      let long : count_of counts said.0 ≡ length (names kind) = counted names said.0 ∙ ap (λ k. length (names k)) own in
-      let place = position_or_len (bytes_eq name) (names kind) in
-      (place, omega (arith, place_below (names kind) name found, long), ap (number_at counts said.0) (place_is (names kind) name found))
-
-  -- a fact that there is
-  abbrev IsFact : ℕ → Type 0
-  IsFact fact = fact < fact_count_of counts
-
-  -- a command to a fact that requests may command
-  abbrev IsRequestCommand : Cmd → Type 0
-  IsRequestCommand command = IsRequestFact counts command.fact
-
-  -- a name without a fault is declared
-  use_known : (name : Spot) → f.use_faults text known has_rule Requests name ≡ [] → known (kind_of (characters text name)) (characters text name) ≡ true
-  use_known name none =
-      let test = known (kind_of (characters text name)) (characters text name) in
-      not_true test (first_fine name (not test) unknown [] none).0
-
-  -- a test of a fact that there is, or of points that are controlled or free
-  test_by_lie : (name : List ℕ) (said : Option (FactKind × Bool)) (lie : Option Bool) → known (kind_of name) name ≡ true → ((s : FactKind × Bool) → said ≡ Some s → identity_of s.0 ≡ kind_of name)
-      → (is_some said || is_some lie) ≡ true → All IsFact (facts_of_item (r.test_by text facts numbers name (r.said_of text facts numbers name said) lie))
-  test_by_lie name said (Some lie) found own is =
-      subst (All IsFact) (sym (free_is (List ℕ) (List ℕ) item_facts cond_facts (numbers name) lie)) (All-nil IsFact)
-  test_by_lie name None None found own is = absurd cc
-  test_by_lie name (Some s) None found own is =
-      let fact = fact_is name s found (own s refl) in
-      subst (All IsFact) (sym (lit_is (List ℕ) (List ℕ) item_facts cond_facts (facts s.0 name) s.1))
-      (All-cons IsFact (facts s.0 name) [] (subst IsFact (sym fact.2) (fact_below counts s.0 fact.0 fact.1)) (All-nil IsFact))
-
-  -- a test without faults is of this kind
-  test_well : (name word : Spot) → f.use_faults text known has_rule Requests name ++ f.test_word_faults text known has_rule Requests (characters text name) word ≡ []
-      → All IsFact (facts_of_item (r.test_row text facts numbers name word))
-  test_well name word none =
-      let called = characters text name in
-      let kind = kind_of called in
-      let said = characters text word in
-      let before = f.use_faults text known has_rule Requests name in
-      let behind = f.test_word_faults text known has_rule Requests called word in
-      let unruled = known kind called && f.lacks_rule (has_rule called) (lie_of_word kind said) in
-      let first = first_fine word (not (is_test kind said)) wrong_word ((unruled, no_pfm) ∷ []) (no_back before behind none) in
-      test_by_lie called (fact_of_word kind said) (lie_of_word kind said) (use_known name (no_front before behind none)) (own_fact kind said) (not_true (is_test kind said) first.0)
-
-  -- a command without faults commands a fact that requests may command
-  command_well : (command : CommandTree) → f.command_faults text known has_rule Requests command ≡ [] → IsRequestCommand (r.command_row text facts numbers command)
-  command_well command none =
-      let called = characters text command.name in
-      let kind = kind_of called in
-      let said = characters text command.word in
-      let before = f.use_faults text known has_rule Requests command.name in
-      let behind = f.command_word_faults text known has_rule Requests called command.word in
-      let found = use_known command.name (no_front before behind none) in
-      let elsewhere = not (may_command Requests (fact_of_word kind said)) in
-      let first = first_fine command.word (not (is_some (fact_of_word kind said))) wrong_word ((elsewhere, not_in_this_file) ∷ []) (no_back before behind none) in
-      let second = first_fine command.word elsewhere not_in_this_file [] first.1 in
-      let some = some_said (fact_of_word kind said) (not_true (is_some (fact_of_word kind said)) first.0) in
-      let fact = fact_is called some.0 found (own_fact kind said some.0 some.1) in
+  -- a command
+  command_good : (most : ℕ) (x : CommandTree) (tokens : List Lexeme) → SpellsCommand x tokens → IsGood PartTree parts most (p.Do x) tokens
+  command_good most x tokens (a_command n w name word) =
+      let no_depth = row_of_do text (facts names) (number_by_name names) ℕ ℕ part_levels body_levels x in
+      let three = ap length (row_of_do text (facts names) (number_by_name names) (List ℕ) (List ℕ) part_code body_code x) in
       record {
-        kind = some.0.0;
-        index = fact.0;
-        allowed = ap (may_command Requests) (sym some.1) ∙ not_true (may_command Requests (fact_of_word kind said)) second.0;
-        within = fact.1;
-        is = ap (λ s. (r.said_of text facts numbers called s).0) some.1 ∙ fact.2;
+        within = λ none.
+            row_of_do text (facts names) (number_by_name names) Bool Bool (part_within scope) body_within x
+            ∙ command_allowed text names has_rule file scope allows x
+            (sym (tree_do_is (List Fault) (List Fault) (f.part_step text (known names) has_rule file) (f.body_step text (known names) has_rule file) x) ∙ none);
+        depth = omega (arith, no_depth);
+        short = omega (arith, three);
       }
 
-  -- ---- conditions
+  -- parts and bodies, where choices in them go so deep
+  module _ (Choice : PartTree → List Lexeme → Type 0) (most : ℕ) (choices : (x : PartTree) (tokens : List Lexeme) → Choice x tokens → IsGood PartTree parts most x tokens) where
+    part_good : (x : PartTree) (tokens : List Lexeme) → PartOf Choice x tokens → IsGood PartTree parts most x tokens
+    part_good x tokens (a_do command u spells) = command_good most command u spells
+    part_good x tokens (an_if part u spells) = choices part u spells
 
-  abbrev ItemWell : ItemTree → Type 0
-  ItemWell tree = f.item_faults text known has_rule Requests tree ≡ [] → All IsFact (facts_of_item (r.item_row text facts numbers tree))
+    body_good : (x : BodyTree) (tokens : List Lexeme) → BodyOf Choice x tokens → IsGood BodyTree bodies most x tokens
+    body_good x tokens spelled =
+        let all = listed_good PartTree parts most comma (PartOf Choice) part_good x.parts tokens spelled in
+        let deep = row_of_body text (facts names) (number_by_name names) ℕ ℕ part_levels body_levels x in
+        let long = ap length (row_of_body text (facts names) (number_by_name names) (List ℕ) (List ℕ) part_code body_code x) in
+        record {
+          within = λ none.
+              row_of_body text (facts names) (number_by_name names) Bool Bool (part_within scope) body_within x
+              ∙ both_true (le-leb 1 (length (map parts.within x.parts)) (omega (arith, all.some, length-map x.parts parts.within)))
+              (all.within (sym (tree_body_is (List Fault) (List Fault) (f.part_step text (known names) has_rule file) (f.body_step text (known names) has_rule file) x.parts) ∙ none));
+          depth = omega (arith, deep, all.depth);
+          short = omega (arith, long, all.short);
+        }
 
-  abbrev CondWell : CondTree → Type 0
-  CondWell tree = f.cond_faults text known has_rule Requests tree ≡ [] → All IsFact (facts_tested (r.cond_row text facts numbers tree))
+  -- an else-branch, if there is one
+  record IsGoodElse (most : ℕ) (x : Option BodyTree) (tokens : List Lexeme) : Type 0 where
+    within : f.else_faults (option_map bodies.faults x) ≡ [] → else_within (option_map bodies.within x) ≡ true
+    depth : else_levels (option_map bodies.depth x) ≤ most
+    short : length (else_code (option_map bodies.code x)) ≤ 5 * length tokens
 
-  at_test : (name word : Spot) → ItemWell (t.Test name word)
-  at_test name word none =
-      subst (λ i. All IsFact (facts_of_item i)) (sym (tree_test_is CondItem Cond (r.item_step text facts numbers) (r.cond_step text facts numbers) name word))
-      (test_well name word (sym (tree_test_is (List Fault) (List Fault) (f.item_step text known has_rule Requests) (f.cond_step text known has_rule Requests) name word) ∙ none))
+  -- a choice, where its branches go so deep
+  module _ (Branch : BodyTree → List Lexeme → Type 0) (most : ℕ) (branches : (x : BodyTree) (tokens : List Lexeme) → Branch x tokens → IsGood BodyTree bodies most x tokens) where
+    else_good : (x : Option BodyTree) (tokens : List Lexeme) → Optional BodyTree (ElseOf Branch) x tokens → IsGoodElse most x tokens
+    else_good x tokens absent = record { within = λ none. refl; depth = omega arith; short = omega arith }
+    else_good x tokens (present y u (an_else m body v word spells)) =
+        let good = branches body v spells in
+        record { within = good.within; depth = good.depth; short = omega (arith, good.short) }
 
-  at_bit : (number word : Spot) → ItemWell (t.Bit number word)
-  at_bit number word none =
-      let one = sym (tree_bit_is (List Fault) (List Fault) (f.item_step text known has_rule Requests) (f.cond_step text known has_rule Requests) number word) ∙ none in
-      absurd cc
+    choice_good : (x : PartTree) (tokens : List Lexeme) → ChoiceOf (SpellsCond deepest) Branch x tokens → IsGood PartTree parts (suc most) x tokens
+    choice_good x tokens (a_choice o m e guard body other u v w begins guarded then first otherwise end) =
+        let asked = cond_spelled text names has_rule file scope.guards allows.guards deepest guard u guarded in
+        let one = branches body v first in
+        let two = else_good other w otherwise in
+        let g = guards.faults guard in
+        let b = bodies.faults body in
+        let h = f.else_faults (option_map bodies.faults other) in
+        let deep = row_of_if text (facts names) (number_by_name names) ℕ ℕ part_levels body_levels guard body other in
+        let most_of_both = max-le one.depth two.depth in
+        let is = ap length (row_of_if text (facts names) (number_by_name names) (List ℕ) (List ℕ) part_code body_code guard body other) in
+        let long = choice_long (guards.code guard) (bodies.code body) (else_code (option_map bodies.code other)) in
+        let all = length-append u (m ∷ (v ++ (w ++ (e ∷ [])))) in
+        let behind = length-append v (w ++ (e ∷ [])) in
+        let last = length-append w (e ∷ []) in
+        record {
+          within = λ none.
+              let parts_none : g ++ b ++ h ≡ [] =
+              sym (tree_if_is (List Fault) (List Fault) (f.part_step text (known names) has_rule file) (f.body_step text (known names) has_rule file) guard body other) ∙ none
+              in
+              let front = no_front (g ++ b) h parts_none in
+              row_of_if text (facts names) (number_by_name names) Bool Bool (part_within scope) body_within guard body other
+              ∙ both_true (asked.within (no_front g b front)) (both_true (le-leb (guards.depth guard) 8 asked.depth)
+              (both_true (one.within (no_back g b front)) (two.within (no_back (g ++ b) h parts_none))));
+          depth = omega (arith, deep, most_of_both);
+          short = omega (arith, is, long, asked.short, one.short, two.short, all, behind, last);
+        }
 
-  at_any : (conds : List CondTree) → AllByRecursion CondWell conds → ItemWell (t.Any conds)
-  at_any conds each none =
-      let rows = map (r.cond_row text facts numbers) conds in
-      subst (λ i. All IsFact (facts_of_item i)) (sym (tree_any_is CondItem Cond (r.item_step text facts numbers) (r.cond_step text facts numbers) conds))
-      (subst (All IsFact) (sym (any_is (List ℕ) (List ℕ) item_facts cond_facts rows))
-      (parts_well IsFact (f.cond_faults text known has_rule Requests) (r.cond_row text facts numbers) facts_tested conds each
-      (sym (tree_any_is (List Fault) (List Fault) (f.item_step text known has_rule Requests) (f.cond_step text known has_rule Requests) conds) ∙ none)))
+  choice_spelled : (choices : ℕ) (x : PartTree) (tokens : List Lexeme) → SpellsChoice deepest choices x tokens → IsGood PartTree parts choices x tokens
+  choice_spelled zero x tokens spelled = absurd spelled
+  choice_spelled (suc choices) x tokens spelled =
+      choice_good (SpellsBodyBy deepest choices) choices (body_good (SpellsChoice deepest choices) choices (choice_spelled choices)) x tokens spelled
 
-  at_items : (items : List ItemTree) → AllByRecursion ItemWell items → CondWell (record { items = items })
-  at_items items each none =
-      let rows = map (r.item_row text facts numbers) items in
-      subst (λ c. All IsFact (facts_tested c)) (sym (tree_cond_is CondItem Cond (r.item_step text facts numbers) (r.cond_step text facts numbers) items))
-      (subst (All IsFact) (sym (cond_is (List ℕ) (List ℕ) item_facts cond_facts rows))
-      (parts_well IsFact (f.item_faults text known has_rule Requests) (r.item_row text facts numbers) facts_of_item items each
-      (sym (tree_cond_is (List Fault) (List Fault) (f.item_step text known has_rule Requests) (f.cond_step text known has_rule Requests) items) ∙ none)))
+  -- a body that few tokens spell is well where it has no faults
+  pub body_well : (x : BodyTree) → IsSpelledBody x → f.body_faults text (known names) has_rule file x ≡ [] → IsWellBody scope (body_row x)
+  body_well x spelled none =
+      let good = body_good (SpellsChoice deepest deepest) deepest (choice_spelled deepest) x spelled.tokens spelled.spelled in
+      record { within = good.within none; depth = good.depth; short = omega (arith, good.short, spelled.few) }
 
-  -- a condition without faults tests facts that there are
-  cond_well : (tree : CondTree) → CondWell tree
-  cond_well = tree_cond_induction ItemWell CondWell at_test at_bit at_any at_items
+  -- ---- commands alone
 
-  -- ---- bodies
+  -- commands as parts of a body
+  abbrev as_body : List CommandTree → BodyTree
+  as_body commands = record { parts = map (λ command. p.Do command) commands }
 
-  -- the row and the faults of a command, of a choice and of a body
-  do_row : (command : CommandTree) → r.part_row text facts numbers (p.Do command) ≡ part.Do (r.command_row text facts numbers command)
-  do_row command = tree_do_is BodyItem Body (r.part_step text facts numbers) (r.body_step text facts numbers) command
+  as_parts : (xs : List CommandTree) (tokens : List Lexeme) → Listed CommandTree SpellsCommand xs tokens → Listed PartTree (PartOf (SpellsChoice deepest deepest)) (as_body xs).parts tokens
+  as_parts xs tokens (last x u spells) = last (p.Do x) u (a_do x u spells)
+  as_parts xs tokens (and_more x ys m u v spells between rest) = and_more (p.Do x) (as_body ys).parts m u v (a_do x u spells) between (as_parts ys v rest)
 
-  if_row : (guard : CondTree) (body : BodyTree) (other : Option BodyTree) → r.part_row text facts numbers (p.If guard body other)
-      ≡ part.If (r.cond_row text facts numbers guard) (r.body_row text facts numbers body) (option_map (r.body_row text facts numbers) other)
-  if_row guard body other = tree_if_is BodyItem Body (r.part_step text facts numbers) (r.body_step text facts numbers) guard body other
+  command_faults_are : (xs : List CommandTree) → joined (map parts.faults (as_body xs).parts) ≡ joined (map (f.command_faults text (known names) has_rule file) xs)
+  command_faults_are [] = refl
+  command_faults_are (x ∷ xs) =
+      ap (λ faults. faults ++ joined (map parts.faults (as_body xs).parts)) (tree_do_is (List Fault) (List Fault) (f.part_step text (known names) has_rule file) (f.body_step text (known names) has_rule file) x)
+      ∙ ap (λ faults. f.command_faults text (known names) has_rule file x ++ faults) (command_faults_are xs)
 
-  if_faults : (guard : CondTree) (body : BodyTree) (other : Option BodyTree) → f.part_faults text known has_rule Requests (p.If guard body other) ≡ []
-      → f.cond_faults text known has_rule Requests guard ++ f.body_faults text known has_rule Requests body ++ f.else_faults (option_map (f.body_faults text known has_rule Requests) other) ≡ []
-  if_faults guard body other none = sym (tree_if_is (List Fault) (List Fault) (f.part_step text known has_rule Requests) (f.body_step text known has_rule Requests) guard body other) ∙ none
+  command_rows_are : (xs : List CommandTree) → map part_row (as_body xs).parts ≡ map (λ command. part.Do command) (map (r.command_row text (facts names) (number_by_name names)) xs)
+  command_rows_are [] = refl
+  command_rows_are (x ∷ xs) =
+      ap (λ row. row ∷ map part_row (as_body xs).parts) (tree_do_is BodyItem Body (r.part_step text (facts names) (number_by_name names)) (r.body_step text (facts names) (number_by_name names)) x)
+      ∙ ap (λ rows. part.Do (r.command_row text (facts names) (number_by_name names) x) ∷ rows) (command_rows_are xs)
 
-  body_faults_are : (parts : List PartTree) → f.body_faults text known has_rule Requests (record { parts = parts }) ≡ [] → joined (map (f.part_faults text known has_rule Requests) parts) ≡ []
-  body_faults_are parts none = sym (tree_body_is (List Fault) (List Fault) (f.part_step text known has_rule Requests) (f.body_step text known has_rule Requests) parts) ∙ none
+  -- the first command of commands without faults has none, also where more is asked of its name
+  first_command : (others : List (Bool × ℕ)) (x : CommandTree) → f.named_faults text (known names) has_rule file others x.name ≡ [] → f.use_faults text (known names) has_rule file x.name ≡ []
+  first_command others x none =
+      let called = characters text x.name in
+      let test = not (known names (kind_of called) called) in
+      ap (λ b. at x.name ((b, unknown) ∷ [])) (first_fine x.name test unknown others none).0
 
-  body_row_is : (parts : List PartTree) → r.body_row text facts numbers (record { parts = parts }) ≡ record { items = map (r.part_row text facts numbers) parts }
-  body_row_is parts = tree_body_is BodyItem Body (r.part_step text facts numbers) (r.body_step text facts numbers) parts
+  no_commands : (others : List (Bool × ℕ)) (xs : List CommandTree) → f.commands_faults text (known names) has_rule file others xs ≡ [] → joined (map (f.command_faults text (known names) has_rule file) xs) ≡ []
+  no_commands others [] none = refl
+  no_commands others (x ∷ xs) none =
+      let name = f.named_faults text (known names) has_rule file others x.name in
+      let word = f.command_word_faults text (known names) has_rule file (characters text x.name) x.word in
+      let rest = joined (map (f.command_faults text (known names) has_rule file) xs) in
+      let front = no_front (name ++ word) rest none in
+      ap (λ faults. faults ++ word ++ rest) (first_command others x (no_front name word front)) ∙ ap (λ faults. faults ++ rest) (no_back name word front) ∙ no_back (name ++ word) rest none
 
-  -- what holds of all that commands and guards without faults have, holds of all that a body without faults has
-  module _ (X : Type 0) (P : X → Type 0) (of_command : Cmd → List X) (of_guard : Cond → List X)
-      (commands : (command : CommandTree) → f.command_faults text known has_rule Requests command ≡ [] → All P (of_command (r.command_row text facts numbers command)))
-      (guards : (guard : CondTree) → f.cond_faults text known has_rule Requests guard ≡ [] → All P (of_guard (r.cond_row text facts numbers guard))) where
-    abbrev PartWell : PartTree → Type 0
-    PartWell tree = f.part_faults text known has_rule Requests tree ≡ [] → All P (had_by_part of_command of_guard (r.part_row text facts numbers tree))
-
-    abbrev BodyWell : BodyTree → Type 0
-    BodyWell tree = f.body_faults text known has_rule Requests tree ≡ [] → All P (had_by of_command of_guard (r.body_row text facts numbers tree))
-
-    at_do : (command : CommandTree) → PartWell (p.Do command)
-    at_do command none =
-        let row = r.command_row text facts numbers command in
-        subst (λ i. All P (had_by_part of_command of_guard i)) (sym (do_row command))
-        (subst (All P) (sym (do_is (List X) (List X) (part_has of_command of_guard) body_has row))
-        (commands command (sym (tree_do_is (List Fault) (List Fault) (f.part_step text known has_rule Requests) (f.body_step text known has_rule Requests) command) ∙ none)))
-
-    -- a choice, by its guard and its branches
-    at_choice : (guard : CondTree) (body : BodyTree) (other : Option BodyTree) (rest : List Fault) → f.else_faults (option_map (f.body_faults text known has_rule Requests) other) ≡ rest
-        → BodyWell body → (rest ≡ [] → All P (of_else (option_map (had_by of_command of_guard) (option_map (r.body_row text facts numbers) other)))) → PartWell (p.If guard body other)
-    at_choice guard body other rest is well others none =
-        let g = f.cond_faults text known has_rule Requests guard in
-        let b = f.body_faults text known has_rule Requests body in
-        let o = f.else_faults (option_map (f.body_faults text known has_rule Requests) other) in
-        let all = if_faults guard body other none in
-        let both = no_front (g ++ b) o all in
-        let guard_row = r.cond_row text facts numbers guard in
-        let body_row = r.body_row text facts numbers body in
-        let other_row = option_map (r.body_row text facts numbers) other in
-        let had = had_by of_command of_guard body_row in
-        subst (λ i. All P (had_by_part of_command of_guard i)) (sym (if_row guard body other))
-        (subst (All P) (sym (if_is (List X) (List X) (part_has of_command of_guard) body_has guard_row body_row other_row))
-        (All-append P (of_guard guard_row ++ had) (of_else (option_map (had_by of_command of_guard) other_row))
-        (All-append P (of_guard guard_row) had (guards guard (no_front g b both)) (well (no_back g b both))) (others (sym is ∙ no_back (g ++ b) o all))))
-
-    at_parts : (parts : List PartTree) → AllByRecursion PartWell parts → BodyWell (record { parts = parts })
-    at_parts parts each none =
-        subst (λ b. All P (had_by of_command of_guard b)) (sym (body_row_is parts))
-        (subst (All P) (sym (body_is (List X) (List X) (part_has of_command of_guard) body_has (map (r.part_row text facts numbers) parts)))
-        (parts_well P (f.part_faults text known has_rule Requests) (r.part_row text facts numbers) (had_by_part of_command of_guard) parts each (body_faults_are parts none)))
-
-    all_well : (tree : BodyTree) → BodyWell tree
-    all_well =
-        tree_body_induction PartWell BodyWell at_do (λ guard body well. at_choice guard body None [] refl well (λ none. All-nil P))
-        (λ guard body other well others. at_choice guard body (Some other) (f.body_faults text known has_rule Requests other) refl well others) at_parts
-
-  -- a body without faults tests facts that there are
-  pub body_tests : (tree : BodyTree) → f.body_faults text known has_rule Requests tree ≡ [] → All IsFact (facts_of_guards (r.body_row text facts numbers tree))
-  body_tests = all_well ℕ IsFact (λ command. []) facts_tested (λ command none. All-nil IsFact) cond_well
-
-  -- and commands facts that requests may command
-  pub body_commands_well : (tree : BodyTree) → f.body_faults text known has_rule Requests tree ≡ [] → All IsRequestCommand (commands_of (r.body_row text facts numbers tree))
-  body_commands_well =
-      all_well Cmd IsRequestCommand (λ command. command ∷ []) (λ guard. [])
-      (λ command none. All-cons IsRequestCommand (r.command_row text facts numbers command) [] (command_well command none) (All-nil IsRequestCommand)) (λ guard none. All-nil IsRequestCommand)
+  -- commands that few tokens spell are well where they have no faults
+  pub commands_well : (others : List (Bool × ℕ)) (xs : List CommandTree) → AreSpelledCommands xs → f.commands_faults text (known names) has_rule file others xs ≡ []
+      → IsWellBody scope (body_of_commands (map (r.command_row text (facts names) (number_by_name names)) xs))
+  commands_well others xs spelled none =
+      let fine = tree_body_is (List Fault) (List Fault) (f.part_step text (known names) has_rule file) (f.body_step text (known names) has_rule file) (as_body xs).parts
+      ∙ command_faults_are xs ∙ no_commands others xs none
+      in
+      let rows = tree_body_is BodyItem Body (r.part_step text (facts names) (number_by_name names)) (r.body_step text (facts names) (number_by_name names)) (as_body xs).parts
+      ∙ ap (λ items. record { items = items }) (command_rows_are xs)
+      in
+      subst (IsWellBody scope) rows (body_well (as_body xs) (record { tokens = spelled.tokens; spelled = as_parts xs spelled.tokens spelled.spelled; few = spelled.few }) fine)

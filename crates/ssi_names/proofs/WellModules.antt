@@ -3,26 +3,28 @@ use Rattle.std.proofs.Common.{◌≡◌, ℕ, ◌<◌, ◌≤◌, ◌||◌, Bool
 use Rattle.std.specs.Prelude.{All, IfSome, fold, nat_le, ◌==◌, if◌then◌else◌, codes}
 use Rattle.std.specs.List.{AllByRecursion, IsDistinct, position_or_len}
 use Rattle.std.specs.Str.{bytes_eq}
+use Rattle.std.proofs.lemmas.Bool.{leb-false, not-false}
 use Rattle.std.proofs.lemmas.Bool.Decides.{nat_tests}
 use Rattle.std.proofs.lemmas.Grind.{common_steps}
-use Rattle.std.proofs.lemmas.List.{map-append}
-use Rattle.std.proofs.lemmas.List.Elements.{All-nil, All-cons, All-replicate, All-set}
+use Rattle.std.proofs.lemmas.List.{length-map, map-append}
+use Rattle.std.proofs.lemmas.List.Elements.{All-cons, All-head, All-tail, All-map, All-replicate, All-set}
 use Rattle.std.proofs.lemmas.List.Folds.{list_any-append}
+use Rattle.std.proofs.lemmas.Map.Steps.{length-le_from_distinct_below}
 use Rattle.ssi_identities.specs.declared.fact.Kind.{Kind}
 use Rattle.ssi_identities.specs.declared.fact.Kind.TheVariants.{Points, Signal, Track}
+use Rattle.ssi_identities.specs.Wells.{wired_kind, pin_count}
 use Rattle.ssi_terms.specs.declared.tree.Spot.{Spot}
 use Rattle.ssi_terms.specs.Trees.{ModuleText}
 use Rattle.ssi_names.specs.Codes.{unknown, twice, bad_pin, wired_twice}
-use Rattle.ssi_names.specs.Declarations.{names_at, is_declared_in, is_wired_in}
+use Rattle.ssi_names.specs.Declarations.{names_at, is_declared_in}
 use Rattle.ssi_names.specs.Faults as f
 use Rattle.ssi_names.specs.ModuleRows.{with_pin, pins_row, number_of_kind}
 use Rattle.ssi_names.specs.NameLists.{is_among}
 use Rattle.ssi_names.specs.Occurrences.{in_order}
 use Rattle.ssi_names.specs.SourceTexts.{SourceText}
 use Rattle.ssi_names.specs.Texts.{characters, number, is_number_among}
-use Rattle.ssi_names.specs.Well.{wired_kind, pin_count}
 use Rattle.ssi_names.proofs.Distinct.{both_false, place_below}
-use Rattle.ssi_names.proofs.Fine.{no_front, no_back, first_fine, no_faults}
+use Rattle.ssi_names.proofs.Fine.{no_front, no_back, first_fine, each_fine, no_faults}
 use Rattle.ssi_names.proofs.Sets.{or_false}
 use Rattle.ssi_names.proofs.Wires.{wires_keep}
 
@@ -37,16 +39,13 @@ pub record IsNewAddress (text : List ℕ) (earlier : List ModuleText) (entry : M
 zero_no : (n : ℕ) → (n == 0) ≡ false → 0 < n
 zero_no n e = grind (arith, nat_tests)
 
-few_no : (n : ℕ) → nat_le 64 n ≡ false → n < 64
-few_no n e = grind (arith, nat_tests)
-
 pub new_address : (text : List ℕ) (earlier : List ModuleText) (entry : ModuleText) → f.address_faults text earlier entry ≡ [] → IsNewAddress text earlier entry
 new_address text earlier entry none =
     let n = number text entry.address in
     let again = is_number_among n (map (λ (e : ModuleText). number text e.address) earlier) in
     let first = first_fine entry.address (n == 0 || nat_le 64 n) bad_pin ((again, twice) ∷ []) none in
     let range = both_false (n == 0) (nat_le 64 n) first.0 in
-    record { some = zero_no n range.0; few = few_no n range.1; new = (first_fine entry.address again twice [] first.1).0 }
+    record { some = zero_no n range.0; few = leb-false 64 n range.1; new = (first_fine entry.address again twice [] first.1).0 }
 
 -- the address and the pins of an entry without faults
 pub address_fine : (text : List ℕ) (known : Kind → List ℕ → Bool) (earlier : List ModuleText) (entry : ModuleText) → f.module_faults text known earlier entry ≡ [] → f.address_faults text earlier entry ≡ []
@@ -94,6 +93,44 @@ pub addresses_differ : (text : List ℕ) (known : Kind → List ℕ → Bool) (m
     → IsDistinct (λ a b. a == b) (map (λ e. number text e.address) modules)
 addresses_differ text known modules none = (addresses_by text known [] modules none).1
 
+small_by : (limit q n : ℕ) (here there : Bool) → (q == n) ≡ here → (here || there) ≡ true → n < limit → (there ≡ true → q < limit) → q < limit
+small_by limit q n true there is found below rest = grind (arith, nat_tests)
+small_by limit q n false there is found below rest = rest found
+
+-- a number that is among numbers below a limit is below it
+small_among : (limit : ℕ) (numbers : List ℕ) → All (λ n. n < limit) numbers → (q : ℕ) → is_number_among q numbers ≡ true → q < limit
+small_among limit [] all q found = absurd cc
+small_among limit (n ∷ numbers) all q found =
+    small_by limit q n (q == n) (is_number_among q numbers) refl found (All-head (λ n. n < limit) n numbers all) (small_among limit numbers (All-tail (λ n. n < limit) n numbers all) q)
+
+-- none of some numbers from 1 on is 0
+none_zero : (numbers : List ℕ) → All (λ n. 0 < n) numbers → AllByRecursion (λ n. (0 == n) ≡ false) numbers
+none_zero [] some = tt
+none_zero (n ∷ numbers) some =
+    let one : 0 < n = All-head (λ n. 0 < n) n numbers some in
+    (grind (arith, nat_tests), none_zero numbers (All-tail (λ n. 0 < n) n numbers some))
+
+-- numbers from 1 to 63 that differ are 63 at most
+few_numbers : (numbers : List ℕ) → IsDistinct (λ a b. a == b) numbers → All (λ n. 0 < n) numbers → All (λ n. n < 64) numbers → length numbers ≤ 63
+unfolding IsDistinct
+few_numbers numbers differ some few =
+    let all = length-le_from_distinct_below (0 ∷ numbers) 64 (none_zero numbers some, differ) (small_among 64 (0 ∷ numbers) (All-cons (λ n. n < 64) 0 numbers (omega arith) few)) in
+    omega (arith, all)
+
+-- so entries without faults are 63 at most
+pub few_modules : {Y : Type 0} (text : List ℕ) (known : Kind → List ℕ → Bool) (row : ModuleText → Y) (modules : List ModuleText) → in_order (f.module_faults text known) [] modules ≡ [] → length (map row modules) ≤ 63
+few_modules text known row modules none =
+    let address = λ (e : ModuleText). number text e.address in
+    let each = each_fine (f.module_faults text known) (λ (e : ModuleText). (0 < address e) × (address e < 64))
+    (λ earlier e so. let fine = new_address text earlier e (address_fine text known earlier e so) in (fine.some, fine.few)) [] modules none
+    in
+    let few = few_numbers (map address modules) (addresses_differ text known modules none) (All-map (λ n. 0 < n) address modules (λ k d within. (each k d within).0))
+    (All-map (λ n. n < 64) address modules (λ k d within. (each k d within).1))
+    in
+    let numbered : length (map address modules) ≡ length modules = simp length-map in
+    let made : length (map row modules) ≡ length modules = simp length-map in
+    omega (arith, few, numbered, made)
+
 -- ---- kinds and pins
 
 kind_by_word : (points signals : Bool) → (if points then 0 else if signals then 1 else 2) ≤ 2
@@ -122,17 +159,13 @@ kind_at_by false false = refl
 pub kind_is : (word : List ℕ) → f.kind_at_pins word ≡ wired_kind (number_of_kind word)
 kind_is word = kind_at_by (bytes_eq word (codes "points")) (bytes_eq word (codes "signal"))
 
-pub not_unknown : (b : Bool) → not b ≡ false → b ≡ true
-not_unknown true e = refl
-not_unknown false e = absurd cc
-
 -- a pin's name without a fault is declared
 pub pin_known : (text : List ℕ) (known : List ℕ → Bool) (count : ℕ) (named : List ℕ → Bool) (earlier : List (Spot × Spot)) (pin : Spot × Spot) → f.pin_faults text known count named earlier pin ≡ []
     → known (characters text pin.0) ≡ true
 pin_known text known count named earlier pin none =
     let name = characters text pin.0 in
     let again = named name || is_among name (names_at text earlier) in
-    not_unknown (known name)
+    not-false (known name)
     (first_fine pin.0 (not (known name)) unknown ((again, wired_twice) ∷ []) (no_front (f.pin_name_faults text known named earlier pin) (f.pin_number_faults text count earlier pin) none)).0
 
 -- pins that are wired to names that are declared are wired to numbers below the count
@@ -158,13 +191,8 @@ row_long text names count entries =
     wires_keep text names (replicate count None) entries ∙ long
 
 -- the addresses of a source without faults are below 64
-each_small : (text : List ℕ) (known : Kind → List ℕ → Bool) (earlier modules : List ModuleText) → in_order (f.module_faults text known) earlier modules ≡ [] → All (λ e. number text e.address < 64) modules
-each_small text known earlier [] none = All-nil (λ e. number text e.address < 64)
-each_small text known earlier (m ∷ modules) none =
-    All-cons (λ (e : ModuleText). number text e.address < 64) m modules
-    (new_address text earlier m (address_fine text known earlier m (no_front (f.module_faults text known earlier m) (in_order (f.module_faults text known) (earlier ++ m ∷ []) modules) none))).few
-    (each_small text known (earlier ++ m ∷ []) modules (no_back (f.module_faults text known earlier m) (in_order (f.module_faults text known) (earlier ++ m ∷ []) modules) none))
-
 pub addresses_small : (text : List ℕ) (tree : SourceText) → f.faults_of text tree ≡ [] → All (λ e. number text e.address < 64) tree.identities.modules
 addresses_small text tree none =
-    each_small text (is_declared_in text tree) [] tree.identities.modules (no_faults text (is_declared_in text tree) (is_wired_in text tree) tree none).modules
+    let known = is_declared_in text tree in
+    each_fine (f.module_faults text known) (λ (e : ModuleText). number text e.address < 64) (λ earlier e so. (new_address text earlier e (address_fine text known earlier e so)).few)
+    [] tree.identities.modules (no_faults text tree none).modules

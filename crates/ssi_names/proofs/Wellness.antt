@@ -1,40 +1,37 @@
 -- A data set without faults is well.
 use Rattle.std.proofs.Common.{◌≡◌, ℕ, ◌+◌, ◌<◌, ◌≤◌, Bool, true, false, not, List, [], ◌∷◌, ◌++◌, map, length, refl, ap, sym, subst, ◌∙◌, arith}
-use Rattle.std.specs.Prelude.{All, IfSome, nat_le, ◌==◌}
+use Rattle.std.specs.Prelude.{⊤, All, IfSome, nat_le, ◌==◌}
 use Rattle.std.specs.List.{AllByRecursion, IsDistinct, position_or_len}
 use Rattle.std.specs.Str.{bytes_eq}
-use Rattle.std.proofs.lemmas.Bool.Decides.{nat_tests}
+use Rattle.std.proofs.lemmas.Bool.{leb-false}
 use Rattle.std.proofs.lemmas.List.{length-append, length-map}
-use Rattle.std.proofs.lemmas.List.Elements.{All-map}
+use Rattle.std.proofs.lemmas.List.Elements.{All-head, All-tail, All-map}
 use Rattle.std.proofs.lemmas.Simd.{map-map}
-use Rattle.ssi_identities.specs.declared.fact.Kind.{Kind}
 use Rattle.ssi_identities.specs.declared.fact.Kind.TheVariants.{Points, Signal, Track, Route, Subroute, Flag, Request}
-use Rattle.ssi_identities.specs.Facts.{IsWithinLimits, fact_count_of}
-use Rattle.ssi_identities.specs.DataSets.{PointsPlan, RoutePlan, SubPlan, ModulePlan, counts_of, names_in}
+use Rattle.ssi_identities.specs.Facts.{IsWithinLimits}
+use Rattle.ssi_identities.specs.Allowed.{IsWellBody, IsWellCond}
+use Rattle.ssi_identities.specs.DataSets.{ModulePlan, counts_of, names_in}
+use Rattle.ssi_identities.specs.IdentityNames.{IsNameOf}
+use Rattle.ssi_identities.specs.Wells.{scope_of_moves, scope_of_conds, scope_of_decisions, scope_of_inputs, IsWellPoints, IsWellRoute, IsWellSub, IsWellStatement, wired_kind, IsWellModule, IsWell}
+use Rattle.ssi_fop.specs.Statements.{StatementText}
 use Rattle.ssi_terms.specs.declared.tree.Spot.{Spot}
 use Rattle.ssi_identities.specs.declared.data_set.RequestRow.{RequestRow}
 use Rattle.ssi_terms.specs.declared.tree.BodyTree.{BodyTree}
 use Rattle.ssi_terms.specs.Trees.{PointsText, RouteText, SubText, ModuleText}
-use Rattle.ssi_identities.specs.declared.rule.Cmd.{Cmd}
-use Rattle.ssi_names.specs.Bodies.{body_faults}
-use Rattle.ssi_names.specs.ModuleRows.{number_of_kind, pins_row, module_row}
-use Rattle.ssi_names.specs.Uses.{facts_of_guards, commands_of}
+use Rattle.ssi_names.specs.ModuleRows.{number_of_kind, pins_row}
 use Rattle.ssi_names.specs.SourceTexts.{SourceText}
 use Rattle.ssi_names.specs.Codes.{unknown, too_many, points_twice_in_subroute}
 use Rattle.ssi_names.specs.declared.fault.Fault.{Fault}
-use Rattle.ssi_names.specs.declared.rule_file.RuleFile.TheVariants.{Requests}
-use Rattle.ssi_names.specs.Declarations.{declared, is_declared_in, is_wired_in, no_rules}
-use Rattle.ssi_names.specs.Formed.{IsFormed}
+use Rattle.ssi_names.specs.Declarations.{declared, has_rule_in, is_declared_in, is_wired_in}
+use Rattle.ssi_names.specs.Formed.{IsSpelledBody, IsSpelledCond, AreSpelledCommands, IsFormed}
 use Rattle.ssi_names.specs.Faults as f
 use Rattle.ssi_names.specs.NameLists.{is_among}
 use Rattle.ssi_names.specs.Occurrences.{at, in_order}
-use Rattle.ssi_names.specs.Rows.{number_in, points_row, route_row, lie_row, sub_row, request_row, counts_by, fact_by_name, number_by_name, resolved}
+use Rattle.ssi_names.specs.Rows.{number_in, move_row, points_row, route_row, lie_row, sub_row, request_row, statement_row, outputs_at, input_at, module_row, resolved}
 use Rattle.ssi_names.specs.Texts.{characters}
-use Rattle.ssi_names.specs.Well.{IsNameOf, IsWellPoints, IsWellRoute, IsWellSub, IsRequestFact, IsWellRequest, IsWellModule, wired_kind, IsWell}
-use Rattle.ssi_names.specs.FilledTrees.{is_filled}
-use Rattle.ssi_names.proofs.Filled.{same_body}
-use Rattle.ssi_names.proofs.WellBodies.{body_tests, body_commands_well}
-use Rattle.ssi_names.proofs.WellModules.{new_address, address_fine, pins_fine, addresses_differ, kind_small, count_is, kind_is, row_wired, row_long}
+use Rattle.ssi_names.proofs.WellRules.{AreWellOutputs, moves_well, request_well, statement_well, statement_room, outputs_well, inputs_well}
+use Rattle.ssi_names.proofs.WellScopes.{same_count, names_are}
+use Rattle.ssi_names.proofs.WellModules.{few_modules, new_address, address_fine, pins_fine, addresses_differ, kind_small, count_is, kind_is, row_wired, row_long}
 use Rattle.ssi_names.proofs.Distinct.{place_below, places_differ}
 use Rattle.ssi_names.proofs.WiredOnce.{wired_once}
 use Rattle.ssi_names.proofs.Fine.{no_front, no_back, first_fine, each_fine, names_differ, AreNew, no_faults, new_of}
@@ -49,35 +46,37 @@ each_name name_of judge P fine earlier (x ∷ xs) none = (
 )
 
 -- as many as stand before the last, and one more
-few_by : {X : Type 0} (judge : List X → X → List Fault) (limit : ℕ) → ((earlier : List X) (x : X) → judge earlier x ≡ [] → length earlier < limit) → (earlier xs : List X) → length earlier ≤ limit
-    → in_order judge earlier xs ≡ [] → length earlier + length xs ≤ limit
-few_by judge limit room earlier [] few none = omega (arith, few)
-few_by judge limit room earlier (x ∷ xs) few none =
-    let here = room earlier x (no_front (judge earlier x) (in_order judge (earlier ++ x ∷ []) xs) none) in
+few_by : {X : Type 0} (judge : List X → X → List Fault) (Q : X → Type 0) (limit : ℕ) → ((earlier : List X) (x : X) → judge earlier x ≡ [] → Q x → length earlier < limit) → (earlier xs : List X)
+    → length earlier ≤ limit → All Q xs → in_order judge earlier xs ≡ [] → length earlier + length xs ≤ limit
+few_by judge Q limit room earlier [] few all none = omega (arith, few)
+few_by judge Q limit room earlier (x ∷ xs) few all none =
+    let here = room earlier x (no_front (judge earlier x) (in_order judge (earlier ++ x ∷ []) xs) none) (All-head Q x xs all) in
     let more : length (earlier ++ x ∷ []) ≡ length earlier + 1 = length-append earlier (x ∷ []) in
-    omega (arith, more, few_by judge limit room (earlier ++ x ∷ []) xs (omega (arith, more, here)) (no_back (judge earlier x) (in_order judge (earlier ++ x ∷ []) xs) none))
+    let rest = few_by judge Q limit room (earlier ++ x ∷ []) xs (omega (arith, more, here)) (All-tail Q x xs all) (no_back (judge earlier x) (in_order judge (earlier ++ x ∷ []) xs) none) in
+    omega (arith, more, rest)
 
--- rows of entries that are within a limit
-few_rows : {X Y : Type 0} (row : X → Y) (judge : List X → X → List Fault) (limit : ℕ) → ((earlier : List X) (x : X) → judge earlier x ≡ [] → length earlier < limit) → (xs : List X)
-    → in_order judge [] xs ≡ [] → length (map row xs) ≤ limit
-few_rows row judge limit room xs none =
-    let few = few_by judge limit room [] xs (omega arith) none in
+-- rows of entries that are within a limit, where something is known of each entry
+few_rows_where : {X Y : Type 0} (row : X → Y) (judge : List X → X → List Fault) (Q : X → Type 0) (limit : ℕ) → ((earlier : List X) (x : X) → judge earlier x ≡ [] → Q x → length earlier < limit) → (xs : List X)
+    → All Q xs → in_order judge [] xs ≡ [] → length (map row xs) ≤ limit
+few_rows_where row judge Q limit room xs all none =
+    let few = few_by judge Q limit room [] xs (omega arith) all none in
     let same : length (map row xs) ≡ length xs = simp length-map in
     omega (arith, few, same)
 
+-- the same where nothing is
+few_rows : {X Y : Type 0} (row : X → Y) (judge : List X → X → List Fault) (limit : ℕ) → ((earlier : List X) (x : X) → judge earlier x ≡ [] → length earlier < limit) → (xs : List X)
+    → in_order judge [] xs ≡ [] → length (map row xs) ≤ limit
+few_rows row judge limit room xs none = few_rows_where row judge (λ x. ⊤) limit (λ earlier x fine known. room earlier x fine) xs (λ k d within. tt) none
+
 -- a name whose first code, that it isn't declared, doesn't apply
-pub known_by : (spot : Spot) (test : Bool) (codes : List (Bool × ℕ)) → at spot ((not test, unknown) ∷ codes) ≡ [] → test ≡ true
+known_by : (spot : Spot) (test : Bool) (codes : List (Bool × ℕ)) → at spot ((not test, unknown) ∷ codes) ≡ [] → test ≡ true
 known_by spot true codes none = refl
 known_by spot false codes none = absurd cc
 
 -- has a number below the count
-pub number_below : (text : List ℕ) (names : List (List ℕ)) (spot : Spot) (codes : List (Bool × ℕ)) → at spot ((not (is_among (characters text spot) names), unknown) ∷ codes) ≡ []
+number_below : (text : List ℕ) (names : List (List ℕ)) (spot : Spot) (codes : List (Bool × ℕ)) → at spot ((not (is_among (characters text spot) names), unknown) ∷ codes) ≡ []
     → number_in text names spot < length names
 number_below text names spot codes none = place_below names (characters text spot) (known_by spot (is_among (characters text spot) names) codes none)
-
--- there is room where the limit isn't reached
-room_by : (limit count : ℕ) → nat_le limit count ≡ false → count < limit
-room_by limit count e = grind (arith, nat_tests)
 
 -- names of an entry without faults: their numbers are below the count, and they are within the limit
 members_well : (text : List ℕ) (names : List (List ℕ)) (limit : ℕ) (spots : List Spot) → in_order (f.member_faults text (λ name. is_among name names) limit) [] spots ≡ []
@@ -89,7 +88,7 @@ members_well text names limit spots none = (
   few_rows (number_in text names) (f.member_faults text (λ name. is_among name names) limit) limit
       (λ earlier spot fine.
       let first = first_fine spot (not (is_among (characters text spot) names)) unknown ((nat_le limit (length earlier), too_many) ∷ []) fine in
-      room_by limit (length earlier) (first_fine spot (nat_le limit (length earlier)) too_many [] first.1).0) spots none,
+      leb-false limit (length earlier) (first_fine spot (nat_le limit (length earlier)) too_many [] first.1).0) spots none,
 )
 
 -- points of a sub-route without faults: they are declared, new and within the limit
@@ -109,7 +108,7 @@ lie_fits text names earlier lie none =
     record {
       known = known_by lie.0 known codes none;
       new = second.0;
-      room = room_by 8 (length earlier) (first_fine lie.0 (nat_le 8 (length earlier)) too_many [] second.1).0;
+      room = leb-false 8 (length earlier) (first_fine lie.0 (nat_le 8 (length earlier)) too_many [] second.1).0;
     }
 
 -- the numbers of these points differ
@@ -123,22 +122,16 @@ lies_differ text names lies none =
     (each_name name_of judge (λ name. is_among name names ≡ true) (λ earlier lie fine. (lie_fits text names earlier lie fine).known) [] lies none)
     (names_differ name_of judge (λ earlier lie fine. (lie_fits text names earlier lie fine).new) lies none))
 
--- as many rows as names, and as many names as entries
-pub same_count : {X Y : Type 0} (name : X → List ℕ) (row : X → Y) (xs : List X) → length (map name xs) ≡ length (map row xs)
-same_count name row xs =
-    let named : length (map name xs) ≡ length xs = simp length-map in
-    let made : length (map row xs) ≡ length xs = simp length-map in
-    named ∙ sym made
-
 points_well : (text : List ℕ) (tree : SourceText) (earlier : List PointsText) (entry : PointsText) → f.points_faults text (is_declared_in text tree) (is_wired_in text tree) earlier entry ≡ []
-    → 0 < length entry.tracks → IsWellPoints (resolved text tree) (points_row text (declared text tree) entry)
-points_well text tree earlier entry none some =
+    → 0 < length entry.tracks → ((name : List ℕ) (lie : Bool) → IfSome (move_row text (declared text tree) tree.free name lie) (IsWellCond (scope_of_moves (resolved text tree))))
+    → IsWellPoints (resolved text tree) (points_row text (declared text tree) tree.free entry)
+points_well text tree earlier entry none some moves =
     let tracks = members_well text (declared text tree Track) 4 entry.tracks
     (no_back (f.wired_name_faults text (is_wired_in text tree) (λ (e : PointsText). e.name) 126 earlier entry)
     (in_order (f.member_faults text (is_declared_in text tree Track) 4) [] entry.tracks) none)
     in
     let same : length (map (number_in text (declared text tree Track)) entry.tracks) ≡ length entry.tracks = simp length-map in
-    record { tracks = tracks.0; some = omega (arith, same, some); few = tracks.1 }
+    record { tracks = tracks.0; some = omega (arith, same, some); few = tracks.1; free_normal = moves (characters text entry.name) false; free_reverse = moves (characters text entry.name) true }
 
 route_well : (text : List ℕ) (tree : SourceText) (earlier : List RouteText) (entry : RouteText) → f.route_faults text (is_declared_in text tree) earlier entry ≡ []
     → 0 < length entry.subs → IsWellRoute (resolved text tree) (route_row text (declared text tree) entry)
@@ -173,53 +166,18 @@ sub_well text tree earlier entry none =
     in
     record {
       track = number_below text (declared text tree Track) entry.track [] (no_front track lies rest);
-      points = subst (λ n. All (λ (lie : ℕ × Bool). lie.0 < n) (map row entry.lies)) (same_count (λ (e : PointsText). characters text e.name) (points_row text (declared text tree)) tree.identities.points)
+      points = subst (λ n. All (λ (lie : ℕ × Bool). lie.0 < n) (map row entry.lies)) (same_count (λ (e : PointsText). characters text e.name) (points_row text (declared text tree) tree.free) tree.identities.points)
           (All-map (λ (lie : ℕ × Bool). lie.0 < length names) row entry.lies below);
       few = few_rows row judge 8 (λ before lie so. (lie_fits text names before lie so).room) entry.lies fine;
       once = subst (IsDistinct (λ a b. a == b)) (sym (map-map (λ (lie : ℕ × Bool). lie.0) row entry.lies)) (lies_differ text names entry.lies fine);
     }
 
--- the names of the data set are those that are declared
-pub names_are : (text : List ℕ) (tree : SourceText) (kind : Kind) → names_in (resolved text tree) kind ≡ declared text tree kind
-names_are text tree Points = map-map (λ (row : PointsPlan). row.name) (points_row text (declared text tree)) tree.identities.points
-names_are text tree Signal = refl
-names_are text tree Track = refl
-names_are text tree Route = map-map (λ (row : RoutePlan). row.name) (route_row text (declared text tree)) tree.identities.routes
-names_are text tree Subroute = map-map (λ (row : SubPlan). row.name) (sub_row text (declared text tree)) tree.identities.subs
-names_are text tree Flag = refl
-names_are text tree Request = map-map (λ (row : RequestRow). row.name) (request_row text (declared text tree)) tree.requests
-
--- so there are as many of each kind
-counts_are : (text : List ℕ) (tree : SourceText) → counts_by (declared text tree) ≡ counts_of (resolved text tree)
-counts_are text tree =
-    let names = declared text tree in
-    (λ i. record {
-      points = same_count (λ (e : PointsText). characters text e.name) (points_row text names) tree.identities.points i;
-      signals = length (names Signal);
-      tracks = length (names Track);
-      routes = same_count (λ (e : RouteText). characters text e.name) (route_row text names) tree.identities.routes i;
-      subs = same_count (λ (e : SubText). characters text e.name) (sub_row text names) tree.identities.subs i;
-      flags = length (names Flag);
-      requests = same_count (λ (e : Spot × BodyTree). characters text e.0) (request_row text names) tree.requests i;
-    })
-
--- a request without faults
-request_well : (text : List ℕ) (tree : SourceText) (earlier : List (Spot × BodyTree)) (entry : Spot × BodyTree) → f.request_faults text (is_declared_in text tree) no_rules earlier entry ≡ []
-    → is_filled entry.1 ≡ true → IsWellRequest (resolved text tree) (request_row text (declared text tree) entry)
-request_well text tree earlier entry none filled =
-    let names = declared text tree in
-    let body = no_back (f.request_name_faults text earlier entry.0) (body_faults text (is_declared_in text tree) no_rules Requests entry.1) none in
-    let row = request_row text names entry in
-    record {
-      filled = same_body text (fact_by_name (counts_by names) names) (number_by_name names) entry.1 ∙ filled;
-      tests = subst (λ counts. All (λ fact. fact < fact_count_of counts) (facts_of_guards row.body)) (counts_are text tree) (body_tests text names no_rules entry.1 body);
-      commands = subst (λ counts. All (λ (command : Cmd). IsRequestFact counts command.fact) (commands_of row.body)) (counts_are text tree) (body_commands_well text names no_rules entry.1 body);
-    }
-
 -- a module without faults
 module_well : (text : List ℕ) (tree : SourceText) (earlier : List ModuleText) (entry : ModuleText) → f.module_faults text (is_declared_in text tree) earlier entry ≡ []
-    → IsWellModule (resolved text tree) (module_row text (declared text tree) entry)
-module_well text tree earlier entry none =
+    → AreWellOutputs (IsWellCond (scope_of_conds (resolved text tree) 0)) (outputs_at text (declared text tree) tree.outputs (characters text entry.address))
+    → IfSome (input_at text (declared text tree) tree.inputs (characters text entry.address)) (IsWellBody (scope_of_inputs (resolved text tree)))
+    → IsWellModule (resolved text tree) (module_row text (declared text tree) tree.outputs tree.inputs entry)
+module_well text tree earlier entry none outputs input =
     let names = declared text tree in
     let word = characters text entry.kind in
     let address = new_address text earlier entry (address_fine text (is_declared_in text tree) earlier entry none) in
@@ -232,7 +190,9 @@ module_well text tree earlier entry none =
       pins = row_long text (names (f.kind_at_pins word)) (f.count_of_pins word) entry.pins ∙ count_is word;
       wired = subst (λ list. All (λ pin. IfSome pin (λ n. n < length list)) pins) same
           (row_wired text (names (f.kind_at_pins word)) (f.count_of_pins word) (f.is_named_by text earlier) entry.pins (pins_fine text (is_declared_in text tree) earlier entry none));
-      outputs = refl;
+      eight = outputs.eight;
+      outputs = outputs.each;
+      input = input;
     }
 
 -- so many rows as names are within the limit of the names
@@ -247,7 +207,7 @@ good_counts text tree none =
     let new = new_of text tree none in
     let names = declared text tree in
     record {
-      points = few_by_names (λ (e : PointsText). characters text e.name) (points_row text names) tree.identities.points 126 (new Points);
+      points = few_by_names (λ (e : PointsText). characters text e.name) (points_row text names tree.free) tree.identities.points 126 (new Points);
       signals = (new Signal).few;
       tracks = (new Track).few;
       routes = few_by_names (λ (e : RouteText). characters text e.name) (route_row text names) tree.identities.routes 512 (new Route);
@@ -261,26 +221,34 @@ pub is_well : (text : List ℕ) (tree : SourceText) → IsFormed text tree → f
 is_well text tree formed none =
     let known = is_declared_in text tree in
     let wired = is_wired_in text tree in
-    let fine = no_faults text known wired tree none in
+    let has_rule = has_rule_in text tree in
+    let fine = no_faults text tree none in
     let plan = resolved text tree in
     let names = declared text tree in
-    let points = each_fine (f.points_faults text known wired) (λ (e : PointsText). 0 < length e.tracks → IsWellPoints plan (points_row text names e)) (points_well text tree)
-    [] tree.identities.points fine.points
+    let points = each_fine (f.points_faults text known wired) (λ (e : PointsText). 0 < length e.tracks → IsWellPoints plan (points_row text names tree.free e))
+    (λ earlier e so some. points_well text tree earlier e so some (moves_well text tree fine.moves formed.moves)) [] tree.identities.points fine.points
     in
-    let requests = each_fine (f.request_faults text known no_rules) (λ (e : Spot × BodyTree). is_filled e.1 ≡ true → IsWellRequest plan (request_row text names e)) (request_well text tree) [] tree.requests fine.requests in
     let routes = each_fine (f.route_faults text known) (λ (e : RouteText). 0 < length e.subs → IsWellRoute plan (route_row text names e)) (route_well text tree) [] tree.identities.routes fine.routes in
+    let requests = each_fine (f.request_faults text known has_rule) (λ (e : Spot × BodyTree). IsSpelledBody e.1 → IsWellBody (scope_of_decisions plan) (request_row text names e).body) (request_well text tree) [] tree.requests fine.requests in
+    let statements = each_fine (f.statement_faults text known has_rule) (λ (e : StatementText). AreSpelledCommands e.commands → IsSpelledCond e.guard → IsWellStatement plan (statement_row text names e)) (statement_well text tree) [] tree.statements fine.statements in
+    let modules = each_fine (f.module_faults text known) (λ (e : ModuleText). IsWellModule plan (module_row text names tree.outputs tree.inputs e))
+    (λ earlier e so. module_well text tree earlier e so (outputs_well text tree fine.outputs formed.outputs (characters text e.address)) (inputs_well text tree fine.inputs formed.inputs (characters text e.address)))
+    [] tree.identities.modules fine.modules
+    in
     record {
       limits = good_counts text tree none;
+      few_statements = few_rows_where (statement_row text names) (f.statement_faults text known has_rule) (λ (e : StatementText). AreSpelledCommands e.commands) 4096 (statement_room text tree) tree.statements formed.commands fine.statements;
+      few_modules = few_modules text known (module_row text names tree.outputs tree.inputs) tree.identities.modules fine.modules;
       names = λ kind. subst (All (IsNameOf kind)) (sym (names_are text tree kind)) (formed.names kind);
       differ = λ kind. subst (IsDistinct bytes_eq) (sym (names_are text tree kind)) (new_of text tree none kind).differ;
-      points = All-map (IsWellPoints plan) (points_row text names) tree.identities.points (λ k d within. points k d within (formed.tracks_of_points k d within));
+      points = All-map (IsWellPoints plan) (points_row text names tree.free) tree.identities.points (λ k d within. points k d within (formed.tracks_of_points k d within));
       routes = All-map (IsWellRoute plan) (route_row text names) tree.identities.routes (λ k d within. routes k d within (formed.subs_of_routes k d within));
       subs = All-map (IsWellSub plan) (sub_row text names) tree.identities.subs
           (each_fine (f.sub_faults text known) (λ (e : SubText). IsWellSub plan (sub_row text names e)) (sub_well text tree) [] tree.identities.subs fine.subs);
-      requests = All-map (IsWellRequest plan) (request_row text names) tree.requests (λ k d within. requests k d within (formed.bodies k d within));
-      modules = All-map (IsWellModule plan) (module_row text names) tree.identities.modules
-          (each_fine (f.module_faults text known) (λ (e : ModuleText). IsWellModule plan (module_row text names e)) (module_well text tree) [] tree.identities.modules fine.modules);
-      wired = λ kind few identity within. wired_once text tree formed none kind few identity (subst (λ list. identity < length list) (names_are text tree (wired_kind kind)) within);
-      addresses = subst (IsDistinct (λ a b. a == b)) (sym (map-map (λ (row : ModulePlan). row.address) (module_row text names) tree.identities.modules))
+      requests = All-map (λ (row : RequestRow). IsWellBody (scope_of_decisions plan) row.body) (request_row text names) tree.requests (λ k d within. requests k d within (formed.bodies k d within));
+      statements = All-map (IsWellStatement plan) (statement_row text names) tree.statements (λ k d within. statements k d within (formed.commands k d within) (formed.guards k d within));
+      modules = All-map (IsWellModule plan) (module_row text names tree.outputs tree.inputs) tree.identities.modules modules;
+      addresses = subst (IsDistinct (λ a b. a == b)) (sym (map-map (λ (row : ModulePlan). row.address) (module_row text names tree.outputs tree.inputs) tree.identities.modules))
           (addresses_differ text known tree.identities.modules fine.modules);
+      wired = λ kind few identity within. wired_once text tree formed none kind few identity (subst (λ list. identity < length list) (names_are text tree (wired_kind kind)) within);
     }

@@ -1,5 +1,5 @@
 -- In a data set without faults each points, signal and track stands at exactly one pin.
-use Rattle.std.proofs.Common.{◌≡◌, ◌≢◌, ℕ, ◌+◌, ◌<◌, ◌≤◌, ◌||◌, Bool, true, false, List, [], ◌∷◌, ◌++◌, length, map, get_or, Option, Some, None, refl, ap, sym, subst, ◌∙◌, arith, replicate}
+use Rattle.std.proofs.Common.{◌≡◌, ◌≢◌, ℕ, ◌+◌, ◌<◌, ◌≤◌, ◌||◌, Bool, true, false, List, [], ◌∷◌, ◌++◌, length, map, get_or, take, Option, Some, None, refl, ap, sym, subst, ◌∙◌, arith, replicate}
 use Rattle.std.specs.Prelude.{All, fold, nat_le, ◌==◌, if◌then◌else◌}
 use Rattle.std.specs.List.{count_by, flat_map, position_or_len}
 use Rattle.std.specs.Str.{bytes_eq}
@@ -10,21 +10,20 @@ use Rattle.std.proofs.lemmas.List.Folds.{list_any-append}
 use Rattle.std.proofs.lemmas.List.Sums.{sum_by-append, sum_by-set}
 use Rattle.std.proofs.lemmas.Slice.Eq.{bytes_eq-Decides}
 use Rattle.ssi_identities.specs.DataSets.{ModulePlan}
-use Rattle.ssi_lexer.specs.TokenTests.{begins_with}
+use Rattle.ssi_identities.specs.IdentityNames.{IsNameOf}
+use Rattle.ssi_identities.specs.Wells.{IsWiredOnce, is_wired_to, wired_kind}
 use Rattle.ssi_terms.specs.declared.tree.Spot.{Spot}
 use Rattle.ssi_terms.specs.Trees.{ModuleText}
 use Rattle.ssi_names.specs.Codes.{bad_pin}
-use Rattle.ssi_names.specs.Declarations.{declared, is_declared_in, is_wired_in, names_at, pins_of}
+use Rattle.ssi_names.specs.Declarations.{declared, is_declared_in, names_at, pins_of}
 use Rattle.ssi_names.specs.Faults as f
 use Rattle.ssi_names.specs.Formed.{IsFormed}
-use Rattle.ssi_names.specs.ModuleRows.{module_row, number_of_kind, pins_row, with_pin}
+use Rattle.ssi_names.specs.ModuleRows.{number_of_kind, pins_row, with_pin}
 use Rattle.ssi_names.specs.NameLists.{is_among}
 use Rattle.ssi_names.specs.Occurrences.{in_order}
-use Rattle.ssi_names.specs.Rows.{resolved}
+use Rattle.ssi_names.specs.Rows.{module_row, resolved}
 use Rattle.ssi_names.specs.SourceTexts.{SourceText}
 use Rattle.ssi_names.specs.Texts.{characters, number, is_number_among}
-use Rattle.ssi_names.specs.Well.{IsNameOf, IsWiredOnce, is_wired_to, wired_kind}
-use Rattle.ssi_names.specs.Words.{letter_of}
 use Rattle.ssi_names.proofs.Distinct.{both_false}
 use Rattle.ssi_names.proofs.Fine.{no_front, no_back, first_fine, each_fine, no_faults, new_of}
 use Rattle.ssi_names.proofs.NamePlaces.{nth_place, place_by, among_all, one_kind}
@@ -135,12 +134,12 @@ module _ (text : List ℕ) (tree : SourceText) (formed : IsFormed text tree) (no
   other_name other small differ name there false is = refl
   other_name other small differ name there true is =
       let begins = (among_all (IsNameOf (wired_kind other)) (declared text tree (wired_kind other)) name (formed.names (wired_kind other)) there).begins in
-      let here : begins_with (letter_of (wired_kind kind)) name ≡ true = ap (begins_with (letter_of (wired_kind kind))) (sym ((bytes_eq-Decides x name).0 is)) ∙ (formed.names (wired_kind kind) i [] within).begins in
-      absurd (other_number other kind differ (one_kind other kind name small few begins here))
+      let here = ap (take 1) (sym ((bytes_eq-Decides x name).0 is)) ∙ (formed.names (wired_kind kind) i [] within).begins in
+      absurd (other_number other kind differ (one_kind other kind small few (sym begins ∙ here)))
 
   -- the pins of a module of the kind, or of another kind
   module_by : (earlier : List ModuleText) (m : ModuleText) (same : Bool) → (number_of_kind (characters text m.kind) == kind) ≡ same → f.module_faults text (is_declared_in text tree) earlier m ≡ []
-      → count_by (is_wired_to i) (if same then (module_row text (declared text tree) m).pins else []) ≡ count_by (bytes_eq x) (names_at text m.pins)
+      → count_by (is_wired_to i) (if same then (module_row text (declared text tree) tree.outputs tree.inputs m).pins else []) ≡ count_by (bytes_eq x) (names_at text m.pins)
   module_by earlier m true is fine =
       let word = characters text m.kind in
       let number_is : number_of_kind word ≡ kind = grind (arith, nat_tests) in
@@ -165,13 +164,12 @@ module _ (text : List ℕ) (tree : SourceText) (formed : IsFormed text tree) (no
   wired_once =
       let modules = tree.identities.modules in
       let known = is_declared_in text tree in
-      let wired = is_wired_in text tree in
-      let fine = (no_faults text known wired tree none).modules in
+      let fine = (no_faults text tree none).modules in
       let pins = λ (row : ModulePlan). if row.kind == kind then row.pins else [] in
-      let each = each_fine (f.module_faults text known) (λ (m : ModuleText). count_by (is_wired_to i) (pins (module_row text (declared text tree) m)) ≡ count_by (bytes_eq x) (names_at text m.pins))
+      let each = each_fine (f.module_faults text known) (λ (m : ModuleText). count_by (is_wired_to i) (pins (module_row text (declared text tree) tree.outputs tree.inputs m)) ≡ count_by (bytes_eq x) (names_at text m.pins))
       (λ earlier m so. module_by earlier m (number_of_kind (characters text m.kind) == kind) refl so) [] modules fine
       in
-      let as_many = all_counted text (is_wired_to i) x pins (module_row text (declared text tree)) modules each in
+      let as_many = all_counted text (is_wired_to i) x pins (module_row text (declared text tree) tree.outputs tree.inputs) modules each in
       let some = count_some (bytes_eq x) (names_at text (pins_of modules)) (all_wired text tree kind few none i [] within) in
       let one = once [] (names_at text (pins_of modules)) x (new_modules text known [] modules fine) in
       let exact : count_by (bytes_eq x) (names_at text (pins_of modules)) ≡ 1 = omega (arith, some, one) in

@@ -6,7 +6,7 @@ use Rattle.ssi_names.specs.declared.fault.ResolveFault.{ResolveFault}
 use Rattle.ssi_names.specs.declared.fault.ResolveFault.TheVariants.{Faults, Memory}
 use Rattle.ssi_names.specs.Faults.{faults_of}
 use Rattle.ssi_names.specs.Rows.{resolved}
-use Rattle.ssi_names.specs.Well.{IsWell}
+use Rattle.ssi_identities.specs.Wells.{IsWell}
 
 -- the data set, which is well, where there are no faults; else all faults; want of memory is free
 abbrev pub IsAnswer : List ℕ → SourceText → Result Plan ResolveFault → Type 0

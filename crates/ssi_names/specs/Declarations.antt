@@ -1,9 +1,13 @@
 -- What a source declares and wires.
-use Rattle.std.specs.Prelude.{ℕ, Bool, false, List, map}
-use Rattle.std.specs.List.{flat_map}
+use Rattle.std.specs.Prelude.{ℕ, Bool, codes, List, map}
+use Rattle.std.specs.List.{filter, flat_map}
+use Rattle.std.specs.Str.{bytes_eq}
 use Rattle.ssi_identities.specs.declared.fact.Kind.{Kind}
 use Rattle.ssi_identities.specs.declared.fact.Kind.TheVariants.{Points, Signal, Track, Route, Subroute, Flag, Request}
 use Rattle.ssi_terms.specs.declared.tree.Spot.{Spot}
+use Rattle.ssi_identities.specs.Values.{is_as_wanted}
+use Rattle.ssi_pfm.specs.Rules.{RulesText}
+use Rattle.ssi_terms.specs.declared.tree.CondTree.{CondTree}
 use Rattle.ssi_terms.specs.Trees.{ModuleText}
 use Rattle.ssi_names.specs.SourceTexts.{SourceText}
 use Rattle.ssi_names.specs.NameLists.{is_among}
@@ -35,6 +39,26 @@ is_declared_in text tree kind name = is_among name (declared text tree kind)
 abbrev pub is_wired_in : List ℕ → SourceText → List ℕ → Bool
 is_wired_in text tree name = is_among name (names_at text (pins_of tree.identities.modules))
 
--- whether an entry of PFM says when points are free to go to a lie; the file has no entries yet
-abbrev pub no_rules : List ℕ → Bool → Bool
-no_rules name lie = false
+-- whether the word for a lie says reverse
+abbrev pub is_reverse : List ℕ → Spot → Bool
+is_reverse text word = bytes_eq (characters text word) (codes "cr")
+
+-- whether an entry of PFM says when points are free to go to a lie, true for reverse
+abbrev pub is_for_lie : List ℕ → Bool → Spot × Spot × CondTree → Bool
+is_for_lie text lie rule = is_as_wanted (is_reverse text rule.1) lie
+
+-- the points of which entries of PFM say when they are free to go to a lie
+abbrev pub points_with_rules : List ℕ → RulesText → Bool → List (List ℕ)
+points_with_rules text rules lie = map (λ rule. characters text rule.0) (filter (is_for_lie text lie) rules)
+
+-- whether an entry of PFM says when points are free to go to a lie
+abbrev pub has_rule_in : List ℕ → SourceText → List ℕ → Bool → Bool
+has_rule_in text tree name lie = is_among name (points_with_rules text tree.free lie)
+
+-- the addresses of entries of TFM, as they are written; a number is written in one way
+abbrev pub addresses_of : List ℕ → List ModuleText → List (List ℕ)
+addresses_of text modules = map (λ entry. characters text entry.address) modules
+
+-- whether an entry of TFM has the address
+abbrev pub has_module_in : List ℕ → SourceText → List ℕ → Bool
+has_module_in text tree address = is_among address (addresses_of text tree.identities.modules)

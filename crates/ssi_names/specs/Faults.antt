@@ -6,16 +6,21 @@ use Rattle.ssi_identities.specs.declared.fact.Kind.{Kind}
 use Rattle.ssi_identities.specs.declared.fact.Kind.TheVariants.{Points, Signal, Track, Subroute}
 use Rattle.ssi_terms.specs.declared.tree.Spot.{Spot}
 use Rattle.ssi_names.specs.declared.fault.Fault.{Fault}
-use Rattle.ssi_names.specs.declared.rule_file.RuleFile.TheVariants.{Requests}
+use Rattle.ssi_names.specs.declared.rule_file.RuleFile.TheVariants.{Requests, Moves, Statements, Outputs, Inputs}
 use Rattle.ssi_names.specs.Codes.{unknown, twice, block_twice, bad_pin, not_wired, wired_twice, too_many, points_twice_in_subroute}
 use Rattle.ssi_terms.specs.Trees.{PointsText, RouteText, SubText, ModuleText, IdentityText}
 use Rattle.ssi_terms.specs.declared.tree.BodyTree.{BodyTree}
+use Rattle.ssi_terms.specs.declared.tree.CondTree.{CondTree}
+use Rattle.ssi_pfm.specs.Rules.{RulesText}
+use Rattle.ssi_fop.specs.Statements.{StatementText, StatementsText}
+use Rattle.ssi_opt.specs.Outputs.{OutputText, OutputsText}
+use Rattle.ssi_ipt.specs.Inputs.{InputsText}
 use Rattle.ssi_names.specs.SourceTexts.{SourceText}
-use Rattle.ssi_names.specs.Bodies.{body_faults}
+use Rattle.ssi_names.specs.Bodies.{cond_faults, commands_faults, body_faults}
 use Rattle.ssi_names.specs.NameLists.{is_among}
 use Rattle.ssi_names.specs.Texts.{characters, number, is_number_among}
 use Rattle.ssi_names.specs.Occurrences.{at, in_order}
-use Rattle.ssi_names.specs.Declarations.{pins_of, names_at, is_declared_in, is_wired_in, no_rules}
+use Rattle.ssi_names.specs.Declarations.{pins_of, names_at, is_declared_in, is_wired_in, is_reverse, points_with_rules, has_rule_in, has_module_in}
 
 -- the kind of identity at the pins of a module, by the word for the module's kind
 abbrev pub kind_at_pins : List ℕ → Kind
@@ -132,6 +137,44 @@ abbrev pub request_faults : List ℕ → (Kind → List ℕ → Bool) → (List 
 request_faults text is_declared has_rule earlier request =
     request_name_faults text earlier request.0 ++ body_faults text is_declared has_rule Requests request.1
 
+-- an entry of PFM: points that aren't declared; an earlier entry has the same points and lie; and its condition
+abbrev pub move_faults : List ℕ → (Kind → List ℕ → Bool) → (List ℕ → Bool → Bool) → RulesText → Spot × Spot × CondTree → List Fault
+move_faults text is_declared has_rule earlier rule =
+    at rule.0 (
+    (not (is_declared Points (characters text rule.0)), unknown)
+    ∷ (is_among (characters text rule.0) (points_with_rules text earlier (is_reverse text rule.1)), block_twice) ∷ [])
+    ++ cond_faults text is_declared has_rule Moves rule.2
+
+-- an entry of FOP: its first name has a fault too where as many entries stand before it as the limit
+abbrev pub statement_faults : List ℕ → (Kind → List ℕ → Bool) → (List ℕ → Bool → Bool) → StatementsText → StatementText → List Fault
+statement_faults text is_declared has_rule earlier statement =
+    commands_faults text is_declared has_rule Statements ((nat_le 4096 (length earlier), too_many) ∷ []) statement.commands
+    ++ cond_faults text is_declared has_rule Statements statement.guard
+
+-- an address in OPT and IPT: no module has it; an earlier entry of the file has it
+abbrev pub block_address_faults : List ℕ → (List ℕ → Bool) → List Spot → Spot → List Fault
+block_address_faults text has_module earlier address =
+    at address (
+    (not (has_module (characters text address)), unknown)
+    ∷ (is_among (characters text address) (map (λ other. characters text other) earlier), block_twice) ∷ [])
+
+-- a bit in OPT: above 7, or used earlier in the entry; and its condition
+abbrev pub output_bit_faults : List ℕ → (Kind → List ℕ → Bool) → (List ℕ → Bool → Bool) → List (Spot × CondTree) → Spot × CondTree → List Fault
+output_bit_faults text is_declared has_rule earlier bit =
+    at bit.0 ((nat_le 8 (number text bit.0) || is_number_among (number text bit.0) (map (λ e. number text e.0) earlier), bad_pin) ∷ [])
+    ++ cond_faults text is_declared has_rule Outputs bit.1
+
+-- an entry of OPT
+abbrev pub output_faults : List ℕ → (Kind → List ℕ → Bool) → (List ℕ → Bool → Bool) → (List ℕ → Bool) → OutputsText → OutputText → List Fault
+output_faults text is_declared has_rule has_module earlier entry =
+    block_address_faults text has_module (map (λ e. e.address) earlier) entry.address
+    ++ in_order (output_bit_faults text is_declared has_rule) [] entry.bits
+
+-- an entry of IPT
+abbrev pub input_faults : List ℕ → (Kind → List ℕ → Bool) → (List ℕ → Bool → Bool) → (List ℕ → Bool) → InputsText → Spot × BodyTree → List Fault
+input_faults text is_declared has_rule has_module earlier entry =
+    block_address_faults text has_module (map (λ e. e.0) earlier) entry.0 ++ body_faults text is_declared has_rule Inputs entry.1
+
 -- the faults of the files of identities in their order, by what is declared and what is wired
 abbrev pub identity_faults : List ℕ → (Kind → List ℕ → Bool) → (List ℕ → Bool) → IdentityText → List Fault
 identity_faults text is_declared is_wired tree =
@@ -140,11 +183,20 @@ identity_faults text is_declared is_wired tree =
     ++ in_order (sub_faults text is_declared) [] tree.subs ++ in_order (flag_faults text) [] tree.flags
     ++ in_order (module_faults text is_declared) [] tree.modules
 
--- the faults of all files in their order, by what is declared, what is wired, and for which lies of points there is a rule
-abbrev pub faults_by : List ℕ → (Kind → List ℕ → Bool) → (List ℕ → Bool) → (List ℕ → Bool → Bool) → SourceText → List Fault
-faults_by text is_declared is_wired has_rule tree =
-    identity_faults text is_declared is_wired tree.identities ++ in_order (request_faults text is_declared has_rule) [] tree.requests
+-- the faults of the files of rules in their order, by what is declared, for which lies of points there is a rule, and which addresses have a module
+abbrev pub rule_faults : List ℕ → (Kind → List ℕ → Bool) → (List ℕ → Bool → Bool) → (List ℕ → Bool) → SourceText → List Fault
+rule_faults text is_declared has_rule has_module tree =
+    in_order (request_faults text is_declared has_rule) [] tree.requests
+    ++ in_order (move_faults text is_declared has_rule) [] tree.free
+    ++ in_order (statement_faults text is_declared has_rule) [] tree.statements
+    ++ in_order (output_faults text is_declared has_rule has_module) [] tree.outputs
+    ++ in_order (input_faults text is_declared has_rule has_module) [] tree.inputs
+
+-- the faults of all files in their order
+abbrev pub faults_by : List ℕ → (Kind → List ℕ → Bool) → (List ℕ → Bool) → (List ℕ → Bool → Bool) → (List ℕ → Bool) → SourceText → List Fault
+faults_by text is_declared is_wired has_rule has_module tree =
+    identity_faults text is_declared is_wired tree.identities ++ rule_faults text is_declared has_rule has_module tree
 
 -- all name faults of a source, in written order
 abbrev pub faults_of : List ℕ → SourceText → List Fault
-faults_of text tree = faults_by text (is_declared_in text tree) (is_wired_in text tree) no_rules tree
+faults_of text tree = faults_by text (is_declared_in text tree) (is_wired_in text tree) (has_rule_in text tree) (has_module_in text tree) tree

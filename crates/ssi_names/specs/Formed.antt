@@ -1,13 +1,34 @@
 -- What the grammar says of the tree of a source.
-use Rattle.std.specs.Prelude.{◌≡◌, ℕ, ◌<◌, ◌≤◌, true, List, length, All}
+use Rattle.std.specs.Prelude.{ℕ, ◌<◌, ◌≤◌, List, length, All}
 use Rattle.ssi_identities.specs.declared.fact.Kind.{Kind}
-use Rattle.ssi_names.specs.SourceTexts.{SourceText}
+use Rattle.ssi_identities.specs.IdentityNames.{IsNameOf}
+use Rattle.ssi_lexer.specs.Languages.{Listed}
+use Rattle.ssi_lexer.specs.Lexemes.{Lexeme}
+use Rattle.ssi_terms.specs.declared.tree.BodyTree.{BodyTree}
+use Rattle.ssi_terms.specs.declared.tree.CommandTree.{CommandTree}
+use Rattle.ssi_terms.specs.declared.tree.CondTree.{CondTree}
+use Rattle.ssi_terms.specs.Grammar.{deepest, SpellsBody, SpellsCommand, SpellsCond}
 use Rattle.ssi_names.specs.Declarations.{declared}
-use Rattle.ssi_names.specs.FilledTrees.{is_filled}
-use Rattle.ssi_names.specs.Well.{IsNameOf}
+use Rattle.ssi_names.specs.SourceTexts.{SourceText}
+
+-- some tokens spell it, no more than 2,097,152
+pub record IsSpelledByFew (X : Type 0) (spells : X → List Lexeme → Type 0) (x : X) : Type 0 where
+  pub tokens : List Lexeme
+  pub spelled : spells x tokens
+  pub few : length tokens ≤ 2097152
+
+-- conditions, bodies and lists of commands that are spelled so
+abbrev pub IsSpelledCond : CondTree → Type 0
+IsSpelledCond = IsSpelledByFew CondTree (SpellsCond deepest)
+
+abbrev pub IsSpelledBody : BodyTree → Type 0
+IsSpelledBody = IsSpelledByFew BodyTree (SpellsBody deepest)
+
+abbrev pub AreSpelledCommands : List CommandTree → Type 0
+AreSpelledCommands = IsSpelledByFew (List CommandTree) (Listed CommandTree SpellsCommand)
 
 -- names are those of identities of their kind, of 16 characters at most, points have a track and routes a sub-route, and
--- conditions and bodies have an item, also in branches
+-- conditions, bodies and commands are spelled by tokens of a text of 2 MiB at most
 pub record IsFormed (text : List ℕ) (tree : SourceText) : Type 0 where
   pub points : All (λ entry. entry.name.len ≤ 16) tree.identities.points
   pub signals : All (λ spot. spot.len ≤ 16) tree.identities.signals
@@ -18,5 +39,10 @@ pub record IsFormed (text : List ℕ) (tree : SourceText) : Type 0 where
   pub requests : All (λ entry. entry.0.len ≤ 16) tree.requests
   pub tracks_of_points : All (λ entry. 0 < length entry.tracks) tree.identities.points
   pub subs_of_routes : All (λ entry. 0 < length entry.subs) tree.identities.routes
-  pub bodies : All (λ entry. is_filled entry.1 ≡ true) tree.requests
+  pub bodies : All (λ entry. IsSpelledBody entry.1) tree.requests
+  pub moves : All (λ rule. IsSpelledCond rule.2) tree.free
+  pub commands : All (λ statement. AreSpelledCommands statement.commands) tree.statements
+  pub guards : All (λ statement. IsSpelledCond statement.guard) tree.statements
+  pub outputs : All (λ entry. All (λ bit. IsSpelledCond bit.1) entry.bits) tree.outputs
+  pub inputs : All (λ entry. IsSpelledBody entry.1) tree.inputs
   pub names : (kind : Kind) → All (IsNameOf kind) (declared text tree kind)

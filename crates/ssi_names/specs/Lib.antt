@@ -15,9 +15,7 @@ pub mod BodyRows
 pub mod ModuleRows
 pub mod Rows
 pub mod Scopes
-pub mod Uses
-pub mod Filled
-pub mod FilledTrees
-pub mod Well
+pub mod Placing
+pub mod RuleRows
 pub mod Formed
 pub mod Answers

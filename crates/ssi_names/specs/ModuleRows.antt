@@ -3,6 +3,8 @@ use Rattle.std.specs.Prelude.{ℕ, if◌then◌else◌, codes, List, fold, repli
 use Rattle.std.specs.List.{position_or_len}
 use Rattle.std.specs.Str.{bytes_eq}
 use Rattle.ssi_identities.specs.declared.fact.Kind.{Kind}
+use Rattle.ssi_identities.specs.declared.rule.Cond.{Cond}
+use Rattle.ssi_identities.specs.declared.rule.Body.{Body}
 use Rattle.ssi_identities.specs.DataSets.{ModulePlan}
 use Rattle.ssi_terms.specs.declared.tree.Spot.{Spot}
 use Rattle.ssi_terms.specs.Trees.{ModuleText}
@@ -22,14 +24,14 @@ module _ (text : List ℕ) where
   abbrev pub pins_row : List (List ℕ) → ℕ → List (Spot × Spot) → List (Option ℕ)
   pins_row names count pins = fold (with_pin names) (replicate count None) pins
 
-  -- a module: no entry of OPT says yet when its bits are 1, and none of IPT what its reports do
-  abbrev pub module_row : (Kind → List (List ℕ)) → ModuleText → ModulePlan
-  module_row names entry =
+  -- a module, with the bits that are sent to it and what its reports do
+  abbrev pub module_by : (Kind → List (List ℕ)) → List (Option Cond) → Option Body → ModuleText → ModulePlan
+  module_by names outputs input entry =
       let word = characters text entry.kind in
       record {
         address = number text entry.address;
         kind = number_of_kind word;
         pins = pins_row (names (kind_at_pins word)) (count_of_pins word) entry.pins;
-        outputs = replicate 8 None;
-        input = None;
+        outputs = outputs;
+        input = input;
       }

@@ -9,7 +9,10 @@ use Rattle.ssi_identities.specs.declared.rule.Cond.{Cond}
 use Rattle.ssi_identities.specs.declared.rule.Cmd.{Cmd}
 use Rattle.ssi_identities.specs.declared.rule.BodyItem.{BodyItem}
 use Rattle.ssi_identities.specs.declared.rule.Body.{Body}
+use Rattle.ssi_identities.specs.DataSets.{StmtPlan}
 use Rattle.ssi_identities.specs.Facts.{IsWithinLimits}
+use Rattle.ssi_fop.specs.Statements.{StatementText}
+use Rattle.ssi_opt.specs.Outputs.{OutputText}
 use Rattle.ssi_terms.specs.declared.tree.Spot.{Spot}
 use Rattle.ssi_terms.specs.declared.tree.CommandTree.{CommandTree}
 use Rattle.ssi_terms.specs.declared.tree.ItemTree.{ItemTree}
@@ -50,6 +53,9 @@ module _ (scope : Scope) where
       f.use_faults scope.text.now (knows scope.tables.now) (rules scope.tables.now) scope.file name
       ++ f.test_word_faults scope.text.now (knows scope.tables.now) (rules scope.tables.now) scope.file (characters scope.text.now name) word
 
+  abbrev pub bit_faults : Spot → List Fault
+  bit_faults = f.bit_faults scope.text.now (knows scope.tables.now) (rules scope.tables.now) scope.file
+
   abbrev pub item_faults : ItemTree → List Fault
   item_faults = f.item_faults scope.text.now (knows scope.tables.now) (rules scope.tables.now) scope.file
 
@@ -58,6 +64,9 @@ module _ (scope : Scope) where
 
   abbrev pub command_faults : CommandTree → List Fault
   command_faults = f.command_faults scope.text.now (knows scope.tables.now) (rules scope.tables.now) scope.file
+
+  abbrev pub commands_faults : List (Bool × ℕ) → List CommandTree → List Fault
+  commands_faults = f.commands_faults scope.text.now (knows scope.tables.now) (rules scope.tables.now) scope.file
 
   abbrev pub part_faults : PartTree → List Fault
   part_faults = f.part_faults scope.text.now (knows scope.tables.now) (rules scope.tables.now) scope.file
@@ -76,6 +85,9 @@ module _ (scope : Scope) where
   abbrev pub test_row : Spot → Spot → CondItem
   test_row = r.test_row scope.text.now (facts_by scope.counts names) (numbers_by scope.counts names)
 
+  abbrev pub bit_row : Spot → Spot → CondItem
+  bit_row = r.bit_row scope.text.now (facts_by scope.counts names) (numbers_by scope.counts names)
+
   abbrev pub item_row : ItemTree → CondItem
   item_row = r.item_row scope.text.now (facts_by scope.counts names) (numbers_by scope.counts names)
 
@@ -90,6 +102,15 @@ module _ (scope : Scope) where
 
   abbrev pub body_row : BodyTree → Body
   body_row = r.body_row scope.text.now (facts_by scope.counts names) (numbers_by scope.counts names)
+
+  abbrev pub statement_row : StatementText → StmtPlan
+  statement_row = r.statement_row scope.text.now (facts_by scope.counts names) (numbers_by scope.counts names)
+
+  abbrev pub with_output : List (Option Cond) → Spot × CondTree → List (Option Cond)
+  with_output = r.with_output scope.text.now (facts_by scope.counts names) (numbers_by scope.counts names)
+
+  abbrev pub outputs_row : OutputText → List (Option Cond)
+  outputs_row = r.outputs_row scope.text.now (facts_by scope.counts names) (numbers_by scope.counts names)
 
   -- a request with its body
   abbrev pub request_row : Spot × BodyTree → RequestRow

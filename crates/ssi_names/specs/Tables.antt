@@ -1,10 +1,10 @@
 -- What the tables of names know.
-use Rattle.std.specs.Prelude.{◌≡◌, ◌<◌, ℕ, Bool, if◌then◌else◌, List, [], map, length}
+use Rattle.std.specs.Prelude.{◌≡◌, ◌<◌, ℕ, Bool, true, false, if◌then◌else◌, List, [], map, length}
 use Rattle.ssi_identities.specs.declared.fact.Kind.{Kind}
 use Rattle.ssi_identities.specs.declared.fact.Kind.TheVariants.{Points, Signal, Track, Route, Subroute, Flag, Request}
 use Rattle.ssi_names.specs.declared.tables.Tables.{Tables}
 use Rattle.ssi_names.specs.SourceTexts.{SourceText}
-use Rattle.ssi_names.specs.Declarations.{declared, pins_of, names_at}
+use Rattle.ssi_names.specs.Declarations.{declared, pins_of, names_at, addresses_of, points_with_rules}
 use Rattle.ssi_names.specs.NameLists.{is_among, set_of}
 use Rattle.ssi_names.specs.Texts.{characters}
 use Rattle.ssi_terms.specs.Trees.{IdentityText}
@@ -31,6 +31,10 @@ wires tables name = is_among name tables.wired
 abbrev pub rules : Tables → List ℕ → Bool → Bool
 rules tables name lie = is_among name (if lie then tables.free_reverse else tables.free_normal)
 
+-- whether an address is in the table of those that modules have
+abbrev pub has_module : Tables → List ℕ → Bool
+has_module tables address = is_among address tables.addresses
+
 -- tables with no names
 abbrev pub no_tables : Tables
 no_tables = record {
@@ -42,6 +46,7 @@ no_tables = record {
   flags = [];
   requests = [];
   wired = [];
+  addresses = [];
   free_normal = [];
   free_reverse = [];
 }
@@ -57,16 +62,18 @@ tables_of_identities text tree = record {
   flags = set_of (map (λ spot. characters text spot) tree.flags);
   requests = [];
   wired = set_of (names_at text (pins_of tree.modules));
+  addresses = set_of (addresses_of text tree.modules);
   free_normal = [];
   free_reverse = [];
 }
 
--- the tables have each declared and each wired name once, and no points with a rule
+-- the tables have each declared and each wired name once, each address of a module, and the points with a rule for each lie
 pub record AreTablesOf (text : List ℕ) (tree : SourceText) (tables : Tables) : Type 0 where
   pub declared_names : (kind : Kind) → table_of tables kind ≡ set_of (declared text tree kind)
   pub wired_names : tables.wired ≡ set_of (names_at text (pins_of tree.identities.modules))
-  pub no_normal : tables.free_normal ≡ []
-  pub no_reverse : tables.free_reverse ≡ []
+  pub addresses : tables.addresses ≡ set_of (addresses_of text tree.identities.modules)
+  pub normal : tables.free_normal ≡ set_of (points_with_rules text tree.free false)
+  pub reverse : tables.free_reverse ≡ set_of (points_with_rules text tree.free true)
 
 -- so few names that a number of 16 bits says the place of each
 pub record IsSmall (tables : Tables) : Type 0 where

@@ -5,20 +5,12 @@ use Rattle.ssi_identities.specs.declared.fact.Kind.{Kind}
 use Rattle.ssi_identities.specs.declared.fact.Kind.TheVariants.{Points, Signal, Track, Route, Subroute, Flag, Request}
 use Rattle.ssi_identities.specs.declared.fact.FactKind.{FactKind}
 use Rattle.ssi_identities.specs.declared.fact.FactKind.TheVariants as fact
+use Rattle.ssi_identities.specs.Allowed.{is_decided, is_reported}
+use Rattle.ssi_identities.specs.IdentityNames.{letter_of}
 use Rattle.ssi_identities.specs.Words.{word_of}
 use Rattle.ssi_lexer.specs.TokenTests.{begins_with}
 use Rattle.ssi_names.specs.declared.rule_file.RuleFile.{RuleFile}
-use Rattle.ssi_names.specs.declared.rule_file.RuleFile.TheVariants.{Requests}
-
--- the letter with which the names of a kind begin
-abbrev pub letter_of : Kind → List ℕ
-letter_of Points = codes "P"
-letter_of Signal = codes "S"
-letter_of Track = codes "T"
-letter_of Route = codes "R"
-letter_of Subroute = codes "U"
-letter_of Flag = codes "L"
-letter_of Request = codes "Q"
+use Rattle.ssi_names.specs.declared.rule_file.RuleFile.TheVariants.{Requests, Moves, Statements, Outputs, Inputs}
 
 -- the first of these kinds whose letter a name begins with; the last one is given
 abbrev pub kind_among : List Kind → Kind → List ℕ → Kind
@@ -62,20 +54,25 @@ is_test kind word = is_some (fact_of_word kind word) || is_some (lie_of_word kin
 abbrev pub is_command : Kind → List ℕ → Bool
 is_command kind word = is_some (fact_of_word kind word)
 
--- the facts that requests may command
-abbrev pub is_fact_of_requests : FactKind → Bool
-is_fact_of_requests fact.Reverse = true
-is_fact_of_requests fact.RouteSet = true
-is_fact_of_requests fact.RouteBarred = true
-is_fact_of_requests fact.Locked = true
-is_fact_of_requests fact.FlagSet = true
-is_fact_of_requests _ = false
-
--- the facts that the bodies of a file may command
+-- the facts that the entries of a file may command: none in PFM and OPT, which have conditions alone
 abbrev pub is_fact_of_file : RuleFile → FactKind → Bool
-is_fact_of_file Requests fact = is_fact_of_requests fact
+is_fact_of_file Requests fact = is_decided fact
+is_fact_of_file Moves fact = false
+is_fact_of_file Statements fact = is_decided fact
+is_fact_of_file Outputs fact = false
+is_fact_of_file Inputs fact = is_reported fact
 
--- whether the bodies of a file may command what a word says
+-- whether the entries of a file may command what a word says
 abbrev pub may_command : RuleFile → Option (FactKind × Bool) → Bool
 may_command file None = false
 may_command file (Some said) = is_fact_of_file file said.0
+
+-- whether a file says when points are free to move
+abbrev pub is_of_moves : RuleFile → Bool
+is_of_moves Moves = true
+is_of_moves _ = false
+
+-- whether a file takes in reports
+abbrev pub is_of_inputs : RuleFile → Bool
+is_of_inputs Inputs = true
+is_of_inputs _ = false

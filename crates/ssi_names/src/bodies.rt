@@ -1,12 +1,13 @@
 //! Bodies: each name is declared, each word is a test or a command that the file may have, and both become a number.
 
-ghost use Rattle.std.specs.Prelude.{◌≡◌, ◌∷◌, ◌++◌, [], option_map, IfOk, OnOk};
+ghost use Rattle.std.specs.Prelude.{◌≡◌, ◌∷◌, ◌++◌, [], map, option_map, IfOk, OnOk};
 ghost use Rattle.ssi_names.specs.Bodies.{else_faults};
+ghost use Rattle.ssi_names.specs.Codes.{too_many};
 ghost use Rattle.ssi_names.specs.Scopes as spec;
 ghost use Rattle.ssi_names.specs.Scopes.{AreLimited};
 ghost use Rattle.ssi_names.specs.Tables.{table_of};
 
-use crate::code::{NOT_IN_THIS_FILE, UNKNOWN, WRONG_WORD};
+use crate::code::{NOT_IN_THIS_FILE, TOO_MANY, UNKNOWN, WRONG_WORD};
 use crate::conditions::cond;
 use crate::fault::{Fault, note};
 use crate::scope::{Scope, fact_said, look_up};
@@ -18,15 +19,16 @@ use ssi_identities::{Body, BodyItem, Cmd};
 use ssi_terms::{BodyTree, CommandTree, PartTree};
 use std::alloc::Global;
 
-/// The command of a tree. Notes its faults.
+/// The command of a tree, whose name may stand where there are too many already. Notes its faults.
 #[tactic(auto, using(std::proofs::lemmas::List::append_assoc))]
 fn command(
     scope: &Scope<'_>,
+    many: bool,
     tree: &CommandTree,
     faults: &mut Vec<Fault>,
 ) -> Result<Cmd, OutOfMemory>
     requires { AreLimited scope.now.counts (table_of scope.now.tables.now) }
-    ensures faults { OnOk result (faults.new.items ≡ faults.old.items ++ spec.command_faults scope.now tree.now) }
+    ensures faults { OnOk result (faults.new.items ≡ faults.old.items ++ spec.commands_faults scope.now ((many, too_many) ∷ []) (tree.now ∷ [])) }
     ensures row { IfOk result (λ row. row ≡ spec.command_row scope.now tree.now) }
 {
     let used = look_up(scope, &tree.name);
@@ -34,7 +36,7 @@ fn command(
     let unknown = used.place.is_none();
     let wrong = said.is_none();
     let elsewhere = !may_command(scope.file, said);
-    note(faults, &tree.name, &[(unknown, UNKNOWN)])?;
+    note(faults, &tree.name, &[(unknown, UNKNOWN), (many, TOO_MANY)])?;
     note(
         faults,
         &tree.word,
@@ -42,6 +44,27 @@ fn command(
     )?;
     let (fact, value) = fact_said(scope, &used, said);
     Ok(Cmd { fact, value })
+}
+
+/// The commands of trees, of which the first may stand where there are too many already. Notes their faults.
+pub fn commands(
+    alloc: Global,
+    scope: &Scope<'_>,
+    many: bool,
+    trees: &[CommandTree],
+    faults: &mut Vec<Fault>,
+) -> Result<Vec<Cmd>, OutOfMemory>
+    requires { AreLimited scope.now.counts (table_of scope.now.tables.now) }
+    ensures faults { OnOk result (faults.new.items ≡ faults.old.items ++ spec.commands_faults scope.now ((many, too_many) ∷ []) trees.now) }
+    ensures rows { IfOk result (λ rows. rows.items ≡ map (spec.command_row scope.now) trees.now) }
+{
+    let mut rows = Vec::with_capacity(alloc, trees.len())?;
+    let mut past = many;
+    for tree in trees {
+        rows.push(command(scope, past, tree, faults)?)?;
+        past = false;
+    }
+    Ok(rows)
 }
 
 /// The body of a tree. Notes its faults.
@@ -78,7 +101,7 @@ fn add_part(
     ensures row { OnOk result (items.new ≡ items.old ++ spec.part_row scope.now tree.now ∷ []) }
 {
     match tree {
-        PartTree::Do(tree) => items.push(BodyItem::Do(command(scope, tree, faults)?))?,
+        PartTree::Do(tree) => items.push(BodyItem::Do(command(scope, false, tree, faults)?))?,
         PartTree::If {
             guard,
             then_body,

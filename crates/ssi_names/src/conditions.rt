@@ -9,17 +9,20 @@ ghost use Rattle.ssi_names.specs.Scopes.{AreLimited};
 ghost use Rattle.ssi_names.specs.Tables.{table_of};
 ghost use Rattle.ssi_names.specs.Words.{kind_of};
 
-use crate::code::{NO_PFM, NOT_IN_THIS_FILE, UNKNOWN, WRONG_WORD};
+use crate::code::{BAD_PIN, FREE_TEST_IN_PFM, NO_PFM, NOT_IN_THIS_FILE, UNKNOWN, WRONG_WORD};
 use crate::fault::{Fault, note};
 use crate::scope::{Scope, UsedName, fact_said, look_up, number_of};
 use crate::tables::lacks_rule;
-use crate::text::characters;
-use crate::words::{fact_by_word, lie_by_word};
+use crate::text::{characters, small_number};
+use crate::words::{fact_by_word, is_of_inputs, is_of_moves, lie_by_word};
 use sqlite_items::Items;
 use ssi_base::OutOfMemory;
 use ssi_identities::{Cond, CondItem, FactKind};
 use ssi_terms::{CondTree, ItemTree, Spot};
 use std::alloc::Global;
+
+/// How many bits a report has.
+const BITS: u8 = 8;
 
 /// The test of a name: points are controlled to a lie or free to go to it, or a fact has a value.
 fn test_by(
@@ -64,10 +67,43 @@ fn test(
     let lie = lie_by_word(used.kind, letters);
     let unknown = used.place.is_none();
     let wrong = said.is_none() && lie.is_none();
+    let free_in_moves = is_of_moves(scope.file) && lie.is_some();
     let unruled = !unknown && lacks_rule(scope.tables, used.name, lie);
     note(faults, name, &[(unknown, UNKNOWN)])?;
-    note(faults, word, &[(wrong, WRONG_WORD), (unruled, NO_PFM)])?;
+    note(
+        faults,
+        word,
+        &[
+            (wrong, WRONG_WORD),
+            (free_in_moves, FREE_TEST_IN_PFM),
+            (unruled, NO_PFM),
+        ],
+    )?;
     Ok(test_by(scope, &used, said, lie))
+}
+
+/// The test of a bit of a report by `h` or `l`. Notes its fault.
+fn bit(
+    scope: &Scope<'_>,
+    number: &Spot,
+    word: &Spot,
+    faults: &mut Vec<Fault>,
+) -> Result<CondItem, OutOfMemory>
+    ensures faults { OnOk result (faults.new.items ≡ faults.old.items ++ spec.bit_faults scope.now number.now) }
+    ensures row { IfOk result (λ row. row ≡ spec.bit_row scope.now number.now word.now) }
+{
+    let bit = small_number(scope.text, number);
+    let elsewhere = !is_of_inputs(scope.file);
+    let past = bit >= BITS;
+    note(
+        faults,
+        number,
+        &[(elsewhere, NOT_IN_THIS_FILE), (past, BAD_PIN)],
+    )?;
+    Ok(CondItem::Bit {
+        bit: bit.min(BITS),
+        wanted: characters(scope.text, word) == b"h".as_slice(),
+    })
 }
 
 /// Adds the item of a tree to a condition. Notes its faults.
@@ -85,13 +121,7 @@ fn add_item(
 {
     match tree {
         ItemTree::Test { name, word } => items.push(test(scope, name, word, faults)?)?,
-        ItemTree::Bit { number, word: _ } => {
-            note(faults, number, &[(true, NOT_IN_THIS_FILE)])?;
-            items.push(CondItem::Lit {
-                fact: 0,
-                wanted: false,
-            })?;
-        }
+        ItemTree::Bit { number, word } => items.push(bit(scope, number, word, faults)?)?,
         ItemTree::Any(conds) => {
             let alternatives = group(alloc, scope, conds.as_slice(), faults)?;
             items.push(CondItem::Any(alternatives))?;

@@ -7,6 +7,7 @@
 //! names, the faults, the rows. It stands on `ssi_terms` for trees and on `ssi_identities` for the data set.
 #![tactic(auto)]
 
+mod addresses;
 mod bodies;
 mod code;
 mod conditions;
@@ -14,19 +15,24 @@ mod declaration;
 mod fault;
 mod faults;
 mod identities;
+mod inputs;
 mod judge;
 mod limits;
 mod members;
 mod module_rows;
 mod modules;
+mod moves;
 mod name_set;
 mod named;
+mod outputs;
+mod placing;
 mod requests;
 mod resolving;
 mod rows;
 mod rule_file;
 mod scope;
 mod source;
+mod statements;
 mod tables;
 mod text;
 mod words;
@@ -37,5 +43,7 @@ pub use resolving::resolve;
 pub use source::{SourceTree, one_source_tree, read_source};
 pub use text::characters;
 
+#[cfg(test)]
+mod row_tests;
 #[cfg(test)]
 mod tests;

@@ -14,6 +14,8 @@ pub const MOST_SUBS: usize = 1024;
 pub const MOST_FLAGS: usize = 512;
 /// Requests.
 pub const MOST_REQUESTS: usize = 1024;
+/// Statements.
+pub const MOST_STATEMENTS: usize = 4096;
 /// Tracks that points lie over.
 pub const MOST_TRACKS_UNDER_POINTS: usize = 4;
 /// Sub-routes of a route.

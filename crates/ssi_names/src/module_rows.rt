@@ -1,8 +1,9 @@
 //! Trackside modules with numbers of identities.
 
-ghost use Rattle.std.specs.Prelude.{◌≡◌, ◌≤◌, ◌<◌, Some, length, replicate, None, slice_set, IfOk};
+ghost use Rattle.std.specs.Prelude.{◌≡◌, ◌≤◌, ◌<◌, [], Some, length, replicate, None, slice_set, IfOk};
 ghost use Rattle.ssi_names.specs.Faults.{count_of_pins, kind_at_pins};
 ghost use Rattle.ssi_names.specs.ModuleRows as spec;
+ghost use Rattle.ssi_names.specs.Rows.{module_row};
 ghost use Rattle.ssi_names.specs.Texts.{number as number_at};
 
 use crate::modules::pins_by_kind;
@@ -15,13 +16,13 @@ use ssi_identities::{Cond, Kind, ModuleRow};
 use ssi_terms::{ModuleEntry, Spot};
 use std::alloc::Global;
 
-/// Wires a pin to the identity of this number. A pin past the last is left out.
-fn wire(pins: &mut Vec<Option<u16>>, pin: u8, identity: u16)
-    ensures { pins.new.items ≡ slice_set pins.old.items pin (Some identity) }
+/// Puts an item at a place. One past the last place is left out.
+pub fn put<T: Drop>(items: &mut Vec<Option<T>>, place: u8, item: T)
+    ensures { items.new.items ≡ slice_set items.old.items place (Some item) }
 {
-    let place = usize::from(pin);
-    if place < pins.len() {
-        pins[place] = Some(identity);
+    let place = usize::from(place);
+    if place < items.len() {
+        items[place] = Some(item);
     }
 }
 
@@ -40,13 +41,13 @@ fn pins_row(
     let mut pins = vec![in alloc; None; usize::from(count)]?;
     for (name, pin) in entries {
         let identity = number(text, names, name);
-        wire(&mut pins, small_number(text, pin), identity);
+        put(&mut pins, small_number(text, pin), identity);
     }
     Ok(pins)
 }
 
 /// No conditions for the bits that are sent to a module.
-fn no_outputs(alloc: Global) -> Result<Vec<Option<Cond>>, OutOfMemory>
+pub fn no_outputs(alloc: Global) -> Result<Vec<Option<Cond>>, OutOfMemory>
     ensures { IfOk result (λ outputs. outputs.items ≡ replicate 8 None) }
 {
     let mut outputs = Vec::with_capacity(alloc, 8)?;
@@ -70,7 +71,7 @@ fn number_of_kind(word: &[u8]) -> u8
 }
 
 impl RowOf<ModuleEntry> for ModuleRow {
-    ghost row_of = { spec.module_row };
+    ghost row_of = { λ text names. module_row text names [] [] };
 
     ghost is_fit = { λ text entry. number_at text entry.address < 64 };
 

@@ -22,8 +22,8 @@ use std::alloc::Global;
 /// One more than the largest address of a module. There is no address 0.
 const ADDRESSES: usize = 64;
 
-/// How many pins a module has at most.
-const PINS: usize = 8;
+/// How many pins a module has at most, and how many bits are sent to it.
+pub const PINS: usize = 8;
 
 /// Marks a number, and answers whether it was marked. A number past the marks is not.
 fn mark(marks: &mut [bool], number: u8) -> bool
@@ -93,8 +93,8 @@ fn pin_name(
     note(faults, spot, &[(unknown, UNKNOWN), (again, WIRED_TWICE)])
 }
 
-/// Notes the fault of a pin's number, in a module of so many pins. A pin that is used is marked.
-fn pin_number(
+/// Notes the fault of the number of a pin or a bit, where there are so many. One that is used is marked.
+pub fn pin_number(
     text: &[u8],
     count: u8,
     used: &mut [bool; PINS],

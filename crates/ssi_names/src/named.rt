@@ -1,15 +1,15 @@
-//! Entries that declare a name.
+//! Entries that go by a name, or by an address.
 
 ghost use Rattle.std.specs.Prelude.{◌≡◌};
 ghost use Rattle.ssi_terms.specs.declared.tree.Spot.{Spot};
 
-use ssi_terms::{BodyTree, PointsEntry, RouteEntry, Spot, SubEntry};
+use ssi_terms::{BodyTree, ModuleEntry, PointsEntry, RouteEntry, Spot, SubEntry};
 
-/// An entry that declares a name.
+/// An entry that goes by a name, or by an address.
 pub trait Named {
     ghost name_of: { Self → Spot };
 
-    /// Where the name stands.
+    /// Where its name or its address stands.
     fn name(&self) -> Spot
         ensures { result ≡ name_of self.now };
 }
@@ -43,6 +43,14 @@ impl Named for SubEntry {
 
     fn name(&self) -> Spot {
         self.name
+    }
+}
+
+impl Named for ModuleEntry {
+    ghost name_of = { λ entry. entry.address };
+
+    fn name(&self) -> Spot {
+        self.address
     }
 }
 

@@ -1,11 +1,11 @@
 //! The data set of a text, or every fault of its names, words and numbers.
 
-ghost use Rattle.std.specs.Prelude.{◌≡◌, [], map};
+ghost use Rattle.std.specs.Prelude.{◌≡◌, ◌≤◌, [], length};
 ghost use Rattle.ssi_names.specs.Answers.{IsAnswer};
 ghost use Rattle.ssi_names.specs.Formed.{IsFormed};
 ghost use Rattle.ssi_names.specs.Faults.{faults_of};
 ghost use Rattle.ssi_names.specs.Spelled.{IsSpelledIn};
-ghost use Rattle.ssi_names.specs.Rows.{request_row};
+ghost use Rattle.ssi_names.specs.RuleRows.{AreRowsOf};
 ghost use Rattle.ssi_names.specs.Tables.{AreTablesOf, table_of};
 
 use crate::fault::{FaultList, ResolveFault};
@@ -16,7 +16,7 @@ use crate::scope::Scope;
 use crate::source::SourceTree;
 use crate::tables::{Tables, counts_within, tables_of};
 use ssi_base::OutOfMemory;
-use ssi_identities::{DataSet, RequestRow};
+use ssi_identities::DataSet;
 use std::alloc::Global;
 
 /// The data set of a text without faults.
@@ -25,15 +25,15 @@ fn accept(
     text: &[u8],
     tables: &Tables,
     tree: &SourceTree,
-    requests: Vec<RequestRow>,
+    judged: Judged,
 ) -> Result<DataSet, ResolveFault>
     requires tables { AreTablesOf text.now tree.now tables.now }
     requires formed { IsFormed text.now tree.now }
     requires fine { faults_of text.now tree.now ≡ [] }
-    requires requests { requests.items ≡ map (request_row text.now (table_of tables.now)) tree.now.requests }
+    requires rows { AreRowsOf text.now (table_of tables.now) tree.now judged }
     ensures { IsAnswer text.now tree.now result }
 {
-    match data_set(alloc, text, tables, tree, requests) {
+    match data_set(alloc, text, tables, tree, judged) {
         Ok(plan) => Ok(plan),
         Err(OutOfMemory) => Err(ResolveFault::Memory),
     }
@@ -58,19 +58,21 @@ fn resolve_by(
         counts,
         file,
     };
-    let Ok(Judged { faults, requests }) = judge_source(alloc, &scope, tree) else {
+    let Ok(judged) = judge_source(alloc, &scope, tree) else {
         return Err(ResolveFault::Memory);
     };
-    if faults.is_empty() {
-        accept(alloc, text, tables, tree, requests)
+    if judged.faults.is_empty() {
+        accept(alloc, text, tables, tree, judged)
     } else {
-        Err(ResolveFault::Faults(FaultList { items: faults }))
+        let items = judged.faults;
+        Err(ResolveFault::Faults(FaultList { items }))
     }
 }
 
 /// The data set of a text with this tree, or every fault of its names, words and numbers in written order.
 pub fn resolve(alloc: Global, text: &[u8], tree: &SourceTree) -> Result<DataSet, ResolveFault>
-    requires { IsSpelledIn text.now tree.now }
+    requires spelled { IsSpelledIn text.now tree.now }
+    requires short { length text.now ≤ 2097152 }
     ensures { IsAnswer text.now tree.now result }
 {
     match tables_of(alloc, text, tree) {

@@ -1,18 +1,23 @@
 //! Rows of the data set, with numbers for names.
 
-ghost use Rattle.std.specs.Prelude.{◌≡◌, ◌≤◌, ◌<◌, ℕ, List, length, map, All, IfOk};
+ghost use Rattle.std.specs.Prelude.{◌≡◌, ◌≤◌, ◌<◌, ℕ, List, [], length, map, All, IfOk};
 ghost use Rattle.ssi_identities.specs.declared.fact.Kind.{Kind as Kinds};
+ghost use Rattle.ssi_names.specs.Declarations.{addresses_of};
 ghost use Rattle.ssi_names.specs.Formed.{IsFormed};
+ghost use Rattle.ssi_names.specs.Placing.{ArePlaces};
+ghost use Rattle.ssi_names.specs.RuleRows.{AreRowsOf};
 ghost use Rattle.ssi_names.specs.Rows as spec;
 ghost use Rattle.ssi_names.specs.Tables.{table_of, IsSmall};
 ghost use Rattle.ssi_names.specs.Texts.{characters as characters_of, number as number_at};
 
+use crate::faults::Judged;
 use crate::name_set::NameSet;
+use crate::placing::{module_rows, points_rows};
 use crate::source::SourceTree;
 use crate::tables::Tables;
-use crate::text::characters;
+use crate::text::{characters, is_reverse};
 use ssi_base::OutOfMemory;
-use ssi_identities::{DataSet, Name, PointsRow, RequestRow, RouteRow, SubRow};
+use ssi_identities::{DataSet, Name, PointsRow, RouteRow, SubRow};
 use ssi_terms::{PointsEntry, RouteEntry, Spot, SubEntry};
 use std::alloc::Global;
 
@@ -30,7 +35,7 @@ pub trait RowOf<X>: Drop {
 }
 
 /// The rows of entries.
-fn rows<X, R: RowOf<X>>(
+pub fn rows<X, R: RowOf<X>>(
     alloc: Global,
     text: &[u8],
     tables: &Tables,
@@ -92,7 +97,7 @@ impl RowOf<Spot> for Name {
 }
 
 impl RowOf<PointsEntry> for PointsRow {
-    ghost row_of = { spec.points_row };
+    ghost row_of = { λ text names. spec.points_row text names [] };
 
     ghost is_fit = { λ text entry. entry.name.len ≤ 16 };
 
@@ -143,7 +148,7 @@ impl RowOf<(Spot, Spot)> for (u16, bool) {
         tables: &Tables,
         entry: &(Spot, Spot),
     ) -> Result<(u16, bool), OutOfMemory> {
-        let reverse = characters(text, &entry.1) == b"cr".as_slice();
+        let reverse = is_reverse(text, &entry.1);
         Ok((number(text, &tables.points, &entry.0), reverse))
     }
 }
@@ -166,30 +171,58 @@ impl RowOf<SubEntry> for SubRow {
     }
 }
 
-/// The data set of a tree, by its tables of names and the rows of its requests.
+/// The data set of a tree, by its tables of names and the rows of its files of rules.
 pub fn data_set(
     alloc: Global,
     text: &[u8],
     tables: &Tables,
     tree: &SourceTree,
-    requests: Vec<RequestRow>,
+    judged: Judged,
 ) -> Result<DataSet, OutOfMemory>
     requires formed { IsFormed text.now tree.now }
     requires small { IsSmall tables.now }
-    requires requests { requests.items ≡ map (spec.request_row text.now (table_of tables.now)) tree.now.requests }
     requires addresses { All (λ entry. number_at text.now entry.address < 64) tree.now.identities.modules }
+    requires points { ArePlaces tables.now.points (map (λ entry. characters_of text.now entry.name) tree.now.identities.points) }
+    requires modules { ArePlaces tables.now.addresses (addresses_of text.now tree.now.identities.modules) }
+    requires rows { AreRowsOf text.now (table_of tables.now) tree.now judged }
     ensures { IfOk result (λ plan. plan ≡ spec.plan_by text.now (table_of tables.now) tree.now) }
 {
     let files = &tree.identities;
+    let Judged {
+        faults: _,
+        requests,
+        moves,
+        statements,
+        outputs,
+        inputs,
+    } = judged;
+    let points = points_rows(
+        alloc,
+        text,
+        tables,
+        files.points.as_slice(),
+        tree.free.entries.as_slice(),
+        moves,
+    )?;
+    let modules = module_rows(
+        alloc,
+        text,
+        tables,
+        files.modules.as_slice(),
+        tree.outputs.entries.as_slice(),
+        outputs,
+        tree.inputs.entries.as_slice(),
+        inputs,
+    )?;
     Ok(DataSet {
-        points: rows(alloc, text, tables, files.points.as_slice())?,
+        points,
         signals: rows(alloc, text, tables, files.signals.as_slice())?,
         tracks: rows(alloc, text, tables, files.tracks.as_slice())?,
         routes: rows(alloc, text, tables, files.routes.as_slice())?,
         subs: rows(alloc, text, tables, files.subs.as_slice())?,
         flags: rows(alloc, text, tables, files.flags.as_slice())?,
         requests,
-        statements: Vec::new(alloc),
-        modules: rows(alloc, text, tables, files.modules.as_slice())?,
+        statements,
+        modules,
     })
 }

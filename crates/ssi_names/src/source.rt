@@ -13,22 +13,31 @@ ghost use Rattle.ssi_names.specs.Sources.{SpellsSource};
 ghost use Rattle.ssi_terms.specs.Grammar.{deepest};
 ghost use Rattle.ssi_terms.specs.Tests.{ends_file};
 
+use ssi_fop::statements;
+use ssi_ipt::inputs;
 use ssi_lexer::{Stop, Tokens};
+use ssi_opt::outputs;
+use ssi_pfm::rules;
 use ssi_prr::requests;
-use ssi_terms::{IdentityTree, ReadFault, file_ended, headers, identity_files};
+use ssi_terms::{IdentityTree, ReadFault, file_ended, identity_files};
 use std::alloc::Global;
 use std::marker::Model;
 
-/// The files that have no entries yet.
-const FILES_WITHOUT_ENTRIES: [[u8; 3]; 4] = [*b"PFM", *b"FOP", *b"OPT", *b"IPT"];
-
-/// The whole source: the files of identities, and each request with its body.
+/// The whole source.
 #[derive(Drop)]
 pub struct SourceTree {
     /// The files PTS to TFM.
     pub identities: IdentityTree,
-    /// PRR.
+    /// PRR: each request with its body.
     pub requests: ssi_prr::FileTree,
+    /// PFM: when points are free to move.
+    pub free: ssi_pfm::FileTree,
+    /// FOP: commands, and the condition under which they act.
+    pub statements: ssi_fop::FileTree,
+    /// OPT: what goes out to modules.
+    pub outputs: ssi_opt::FileTree,
+    /// IPT: what comes in from modules.
+    pub inputs: ssi_ipt::FileTree,
 }
 
 impl Model for SourceTree {
@@ -41,7 +50,14 @@ impl Model for SourceTree {
 
     ghost coded = { Prim.hlevel (codes, item_tree.the_row.coded, part_tree.the_row.coded) };
 
-    ghost view = { λ tree. record { identities = tree.identities; requests = tree.requests } };
+    ghost view = { λ tree. record {
+      identities = tree.identities;
+      requests = tree.requests;
+      free = tree.free;
+      statements = tree.statements;
+      outputs = tree.outputs;
+      inputs = tree.inputs;
+    } };
 }
 
 /// The files, whatever follows.
@@ -52,10 +68,17 @@ fn source_files(alloc: Global, tokens: &mut Tokens<'_>) -> Result<SourceTree, St
 {
     let identities = identity_files(alloc, tokens)?;
     let requests = requests(alloc, tokens)?;
-    headers(tokens, &FILES_WITHOUT_ENTRIES)?;
+    let free = rules(alloc, tokens)?;
+    let statements = statements(alloc, tokens)?;
+    let outputs = outputs(alloc, tokens)?;
+    let inputs = inputs(alloc, tokens)?;
     Ok(SourceTree {
         identities,
         requests,
+        free,
+        statements,
+        outputs,
+        inputs,
     })
 }
 

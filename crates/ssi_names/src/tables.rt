@@ -1,9 +1,9 @@
 //! Tables of the names that a text declares, and of those that its modules name.
 
-ghost use Rattle.std.specs.Prelude.{◌≡◌, fold, map, None, IfOk, OnOk};
+ghost use Rattle.std.specs.Prelude.{◌≡◌, false, fold, map, true, None, IfOk, OnOk};
 ghost use Rattle.ssi_identities.specs.Facts.{IsWithinLimits};
 ghost use Rattle.ssi_names.specs.Bodies.{lacks_rule as lacks_rule_of};
-ghost use Rattle.ssi_names.specs.Declarations.{pins_of, names_at};
+ghost use Rattle.ssi_names.specs.Declarations.{names_at, pins_of, points_with_rules};
 ghost use Rattle.ssi_names.specs.NameLists.{with_name};
 ghost use Rattle.ssi_names.specs.Rows.{counts_by};
 ghost use Rattle.ssi_names.specs.Scopes.{AreLimited};
@@ -16,10 +16,10 @@ use crate::limits::{
 use crate::name_set::NameSet;
 use crate::named::Named;
 use crate::source::SourceTree;
-use crate::text::characters;
+use crate::text::{characters, is_reverse};
 use ssi_base::OutOfMemory;
 use ssi_identities::{Counts, Kind};
-use ssi_terms::{BodyTree, IdentityTree, ModuleEntry, Spot};
+use ssi_terms::{CondTree, IdentityTree, ModuleEntry, Spot};
 use std::alloc::Global;
 
 /// The names of each kind that are declared, and the names that modules have at their pins.
@@ -34,6 +34,8 @@ pub struct Tables {
     pub requests: NameSet,
     /// The names at pins.
     pub wired: NameSet,
+    /// The addresses of modules, as they are written.
+    pub addresses: NameSet,
     /// Points for which a rule says when they are free to go to normal.
     pub free_normal: NameSet,
     /// Points for which a rule says when they are free to go to reverse.
@@ -112,6 +114,7 @@ fn no_names(alloc: Global) -> Tables
         flags: NameSet::new(alloc),
         requests: NameSet::new(alloc),
         wired: NameSet::new(alloc),
+        addresses: NameSet::new(alloc),
         free_normal: NameSet::new(alloc),
         free_reverse: NameSet::new(alloc),
     }
@@ -121,31 +124,17 @@ fn no_names(alloc: Global) -> Tables
 pub fn tables_of(alloc: Global, text: &[u8], tree: &SourceTree) -> Result<Tables, OutOfMemory>
     ensures { IfOk result (AreTablesOf text.now tree.now) }
 {
-    tables_of_files(
-        alloc,
-        text,
-        &tree.identities,
-        tree.requests.entries.as_slice(),
-    )
-}
-
-/// The tables of the files of identities and of PRR.
-fn tables_of_files(
-    alloc: Global,
-    text: &[u8],
-    tree: &IdentityTree,
-    requests: &[(Spot, BodyTree)],
-) -> Result<Tables, OutOfMemory>
-    ensures { IfOk result (AreTablesOf text.now
-        (record { identities = tree.now; requests = requests.now })) }
-{
     let mut tables = no_names(alloc);
-    add_identities(alloc, text, &mut tables, tree)?;
+    add_identities(alloc, text, &mut tables, &tree.identities)?;
+    let requests = tree.requests.entries.as_slice();
     add_names(alloc, text, &mut tables.requests, requests)?;
+    let rules = tree.free.entries.as_slice();
+    let (normal, reverse) = (&mut tables.free_normal, &mut tables.free_reverse);
+    add_rules(alloc, text, normal, reverse, rules)?;
     Ok(tables)
 }
 
-/// Adds the names that the files of identities declare, and those at pins.
+/// Adds the names that the files of identities declare, those at pins, and the addresses of modules.
 fn add_identities(
     alloc: Global,
     text: &[u8],
@@ -162,6 +151,7 @@ fn add_identities(
     add_names(alloc, text, &mut tables.subs, tree.subs.as_slice())?;
     add_names(alloc, text, &mut tables.flags, tree.flags.as_slice())?;
     add_wired(alloc, text, &mut tables.wired, tree.modules.as_slice())?;
+    add_names(alloc, text, &mut tables.addresses, tree.modules.as_slice())?;
     Ok(())
 }
 
@@ -177,6 +167,27 @@ fn add_names<X: Named>(
 {
     for entry in entries {
         names.add(alloc, characters(text, &entry.name()))?;
+    }
+    Ok(())
+}
+
+/// Adds the points of entries of PFM, each to those for the lie that the entry is for.
+fn add_rules(
+    alloc: Global,
+    text: &[u8],
+    normal: &mut NameSet,
+    reverse: &mut NameSet,
+    rules: &[(Spot, Spot, CondTree)],
+) -> Result<(), OutOfMemory>
+    ensures normal { OnOk result (normal.new ≡ fold with_name normal.old (points_with_rules text.now rules.now false)) }
+    ensures reverse { OnOk result (reverse.new ≡ fold with_name reverse.old (points_with_rules text.now rules.now true)) }
+{
+    for (name, lie, _cond) in rules {
+        if is_reverse(text, lie) {
+            reverse.add(alloc, characters(text, name))?;
+        } else {
+            normal.add(alloc, characters(text, name))?;
+        }
     }
     Ok(())
 }

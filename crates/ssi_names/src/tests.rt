@@ -1,12 +1,12 @@
 use super::*;
-use ssi_identities::{Body, BodyItem, Cmd, Cond, CondItem, DataSet};
+use ssi_identities::DataSet;
 use ssi_lexer::Tokens;
 use std::alloc::Global;
 use std::process::Abort;
 use std::test::Fail;
 
 /// Files without a fault, in their order.
-const SOUND: [(&str, &str); 8] = [
+const SOUND: [(&str, &str); 12] = [
     ("PTS", "P1 over T1 ."),
     ("SIG", "S1 . S2 ."),
     ("TCS", "T1 ."),
@@ -18,10 +18,11 @@ const SOUND: [(&str, &str); 8] = [
         "1 points P1 at 0 . 2 signal S1 at 0, S2 at 1 . 3 track T1 at 0 .",
     ),
     ("PRR", "Q1 L1 s ."),
+    ("PFM", ""),
+    ("FOP", ""),
+    ("OPT", ""),
+    ("IPT", ""),
 ];
-
-/// The files behind them.
-const BEHIND: &str = "file PFM\nfile FOP\nfile OPT\nfile IPT\n";
 
 /// The files behind TFM, with no entries.
 const BEHIND_TFM: &str = "file PRR\nfile PFM\nfile FOP\nfile OPT\nfile IPT\n";
@@ -42,23 +43,39 @@ const TFM: usize = 6;
 
 const PRR: usize = 7;
 
-/// The sound files, of which one has other entries. The entries of each stand on one line: those of PTS on
-/// line 2, and so on up to those of PRR on line 16.
-fn with_entries(alloc: Global, file: usize, entries: &str) -> Result<String, Fail> {
+const FOP: usize = 9;
+
+/// The entries of a file, where these files have other entries than the sound ones.
+fn entries_of<'a>(others: &[(usize, &'a str)], file: usize, sound: &'a str) -> &'a str {
+    for (other, entries) in others {
+        if *other == file {
+            return *entries;
+        }
+    }
+    sound
+}
+
+/// The sound files, of which some have other entries. The entries of each stand on one line: those of PTS on
+/// line 2, and so on up to those of IPT on line 24.
+fn with_others(alloc: Global, others: &[(usize, &str)]) -> Result<String, Fail> {
     let mut text = String::new(alloc);
-    for (place, (name, sound)) in SOUND.iter().enumerate() {
+    for (file, (name, sound)) in SOUND.iter().enumerate() {
         text.push_str("file ")?;
         text.push_str(name)?;
         text.push_str("\n")?;
-        text.push_str(if place == file { entries } else { sound })?;
+        text.push_str(entries_of(others, file, sound))?;
         text.push_str("\n")?;
     }
-    text.push_str(BEHIND)?;
     Ok(text)
 }
 
+/// The sound files, of which one has other entries.
+fn with_entries(alloc: Global, file: usize, entries: &str) -> Result<String, Fail> {
+    with_others(alloc, &[(file, entries)])
+}
+
 /// What is answered to a text that is spelled well.
-fn answer_to(
+pub fn answer_to(
     rt: &impl Abort,
     alloc: Global,
     text: &[u8],
@@ -118,18 +135,45 @@ fn check_rows(rt: &impl Abort, alloc: Global, rows: &[(usize, &str, &str)]) -> R
     Ok(())
 }
 
+/// The first cell of a line of a table, and what stands behind it.
+fn first_cell(line: &str) -> (&str, &str) {
+    let (cell, behind) = line.split_once('|').unwrap_or((line, ""));
+    (cell.trim(), behind.trim())
+}
+
+/// The place of a file.
+fn file_of(name: &str) -> Result<usize, Fail> {
+    match SOUND.iter().position(|(file, _)| *file == name) {
+        Some(place) => Ok(place),
+        None => Err("no such file")?,
+    }
+}
+
 /// Checks the lines of a table, each a file with other entries than the sound ones and the faults that
 /// these have.
 fn check_table(rt: &impl Abort, alloc: Global, table: &str) -> Result<(), Fail> {
     for line in table.lines() {
-        let (file, row) = line.split_once('|').unwrap_or((line, ""));
-        let (entries, want) = row.split_once('|').unwrap_or((row, ""));
-        let place = match SOUND.iter().position(|(name, _)| *name == file.trim()) {
-            Some(place) => place,
-            None => Err("no such file")?,
-        };
-        let text = with_entries(alloc, place, entries.trim())?;
-        check_faults(rt, alloc, text.as_str(), want.trim())?;
+        let (file, row) = first_cell(line);
+        let (entries, want) = first_cell(row);
+        let text = with_entries(alloc, file_of(file)?, entries)?;
+        check_faults(rt, alloc, text.as_str(), want)?;
+    }
+    Ok(())
+}
+
+/// Checks the lines of a table, each two files with other entries than the sound ones and the faults that
+/// these have.
+fn check_pairs(rt: &impl Abort, alloc: Global, table: &str) -> Result<(), Fail> {
+    for line in table.lines() {
+        let (file, row) = first_cell(line);
+        let (entries, row) = first_cell(row);
+        let (other, row) = first_cell(row);
+        let (others, want) = first_cell(row);
+        let text = with_others(
+            alloc,
+            &[(file_of(file)?, entries), (file_of(other)?, others)],
+        )?;
+        check_faults(rt, alloc, text.as_str(), want)?;
     }
     Ok(())
 }
@@ -234,7 +278,7 @@ PRR | Q1 if L1 cn then L1 s end . | 16:10 N3 cn
 PRR | Q1 if L1 cnf, P1 h then L1 s end . | 16:10 N3 cnf, 16:18 N3 h
 PRR | Q1 T1 o, S1 lp, P1 dn, P1 xdr . | 16:7 N4 o, 16:13 N4 lp, 16:20 N4 dn, 16:27 N4 xdr
 PRR | Q1 T2 o, T2 l . | 16:4 N1 T2, 16:7 N4 o, 16:10 N1 T2, 16:13 N3 l
-PRR | Q1 if P1 cnf, P1 crf then L1 s end . | 16:10 N5 cnf, 16:18 N5 crf
+PRR | Q1 if 0 h, (9 l or L1 s) then L1 s end . | 16:7 N4 0, 16:13 N4 9
 PRR | Q1 if P2 cnf, L1 crf then L1 s end . | 16:7 N1 P2, 16:18 N3 crf
 ";
 
@@ -243,11 +287,123 @@ fn faults_of_words(rt: HostRuntime) -> Result<(), Fail> {
     check_table(&rt, rt.alloc(), WORDS)
 }
 
+/// When points are free to move. Each line has a file, its entries, and their faults.
+const MOVES: &str = "\
+PFM | P1 cn if T1 c . P1 cr if L1 s, (U1 f or R1 a) . |
+PFM | P2 cn if T1 c . | 18:1 N1 P2
+PFM | P1 cn if T1 c . P1 cn if T1 c . | 18:17 N6 P1
+PFM | P1 cn if T1 c . P1 cr if T1 c . P1 cn if T1 c . P1 cr if T1 c . | 18:33 N6 P1, 18:49 N6 P1
+PFM | P2 cn if T1 c . P2 cn if T1 c . | 18:1 N1 P2, 18:17 N1 P2
+PFM | P1 cn if T2 c . P1 cn if L1 cn . | 18:10 N1 T2, 18:17 N6 P1, 18:29 N3 cn
+PFM | P1 cn if P1 cnf, P1 crf . | 18:13 N10 cnf, 18:21 N10 crf
+PFM | P1 cn if P2 cnf, L1 crf, P1 h . | 18:10 N1 P2, 18:13 N10 cnf, 18:21 N3 crf, 18:29 N3 h
+PFM | P1 cn if 0 h, (T1 c or 8 l) . | 18:10 N4 0, 18:24 N4 8
+";
+
 #[test]
-fn faults_of_requests_follow_those_of_modules(rt: HostRuntime) -> Result<(), Fail> {
+fn faults_of_moves(rt: HostRuntime) -> Result<(), Fail> {
+    check_table(&rt, rt.alloc(), MOVES)
+}
+
+/// Statements. Each line has a file, its entries, and their faults.
+const STATEMENTS: &str = "\
+FOP | P1 cr, P1 cn, R1 s, R1 xs, R1 xa, R1 a, U1 l, U1 f, L1 s, L1 xs if T1 c, P1 dn, S1 lp . |
+FOP | L1 s if L1 s . L1 s if L1 s . |
+FOP | L2 s if L1 s . | 20:1 N1 L2
+FOP | L1 s, L2 s, U2 f if L3 s . | 20:7 N1 L2, 20:13 N1 U2, 20:21 N1 L3
+FOP | L1 cn, P1 cnf, T1 h if L1 cn . | 20:4 N3 cn, 20:11 N3 cnf, 20:19 N3 h, 20:27 N3 cn
+FOP | T1 o, S1 lp, P1 dn, P1 xdr if L1 s . | 20:4 N4 o, 20:10 N4 lp, 20:17 N4 dn, 20:24 N4 xdr
+FOP | T2 o, T2 l if L1 s . | 20:1 N1 T2, 20:4 N4 o, 20:7 N1 T2, 20:10 N3 l
+FOP | L1 s if 0 h, (9 l or L1 s) . | 20:9 N4 0, 20:15 N4 9
+";
+
+#[test]
+fn faults_of_statements(rt: HostRuntime) -> Result<(), Fail> {
+    check_table(&rt, rt.alloc(), STATEMENTS)
+}
+
+/// What goes out to modules. Each line has a file, its entries, and their faults.
+const OUTPUTS: &str = "\
+OPT | 1 bit 0 if P1 cn bit 7 if P1 cr . 2 bit 0 if R1 s, (U1 l or L1 s) . |
+OPT | 4 bit 0 if T1 c . | 22:1 N1 4
+OPT | 257 bit 0 if T1 c . | 22:1 N1 257
+OPT | 1 bit 0 if T1 c . 1 bit 1 if T1 c . | 22:19 N6 1
+OPT | 4 bit 0 if T1 c . 4 bit 1 if T1 c . | 22:1 N1 4, 22:19 N1 4
+OPT | 1 bit 8 if T1 c . | 22:7 N7 8
+OPT | 1 bit 0 if T1 c bit 0 if T1 c . | 22:21 N7 0
+OPT | 1 bit 8 if T1 c bit 8 if T1 c bit 256 if T1 c . | 22:7 N7 8, 22:21 N7 8, 22:35 N7 256
+OPT | 1 bit 0 if T2 c, L1 cn, 0 h . | 22:12 N1 T2, 22:21 N3 cn, 22:25 N4 0
+";
+
+#[test]
+fn faults_of_outputs(rt: HostRuntime) -> Result<(), Fail> {
+    check_table(&rt, rt.alloc(), OUTPUTS)
+}
+
+/// What comes in from modules. Each line has a file, its entries, and their faults.
+const INPUTS: &str = "\
+IPT | 1 if 0 h then P1 dn else P1 xdn end, if 7 l then P1 dr else P1 xdr end . 2 S1 lp, S2 xlp . 3 T1 c, T1 o, L1 s, L1 xs . |
+IPT | 4 L1 s . | 24:1 N1 4
+IPT | 257 L1 s . | 24:1 N1 257
+IPT | 1 L1 s . 1 L1 xs . | 24:10 N6 1
+IPT | 4 L1 s . 4 L1 s . | 24:1 N1 4, 24:10 N1 4
+IPT | 1 if T2 c, L1 cn then L2 s else T2 o end . | 24:6 N1 T2, 24:15 N3 cn, 24:23 N1 L2, 24:33 N1 T2
+IPT | 1 L1 o, P1 cnf, T1 h . | 24:6 N3 o, 24:12 N3 cnf, 24:20 N3 h
+IPT | 1 P1 cr, P1 cn, R1 s, R1 xa, U1 l, U1 f . | 24:6 N4 cr, 24:13 N4 cn, 24:20 N4 s, 24:26 N4 xa, 24:33 N4 l, 24:39 N4 f
+IPT | 1 P2 cr, P2 l . | 24:3 N1 P2, 24:6 N4 cr, 24:10 N1 P2, 24:13 N3 l
+IPT | 1 if 8 h then L1 s end . | 24:6 N7 8
+IPT | 1 if 256 h, (0 h or 9 l) then L1 s end . | 24:6 N7 256, 24:21 N7 9
+";
+
+#[test]
+fn faults_of_inputs(rt: HostRuntime) -> Result<(), Fail> {
+    check_table(&rt, rt.alloc(), INPUTS)
+}
+
+/// What one file says and another asks for: when points are free to go to a lie, and which addresses have a
+/// module. Each line has two files with their entries, and the faults.
+const TWO_FILES: &str = "\
+PFM | | PRR | Q1 if P1 cnf, P1 crf then L1 s end . | 16:10 N5 cnf, 16:18 N5 crf
+PFM | P1 cn if T1 c . | PRR | Q1 if P1 cnf, P1 crf then L1 s end . | 16:18 N5 crf
+PFM | P1 cr if T1 c . | PRR | Q1 if P1 cnf, P1 crf then L1 s end . | 16:10 N5 cnf
+PFM | P1 cn if T1 c . P1 cr if T1 c . | PRR | Q1 if P1 cnf, P1 crf then L1 s end . |
+PFM | P1 cn if T1 c . P1 cn if T1 c . | PRR | Q1 if P1 cnf, P1 crf then L1 s end . | 16:18 N5 crf, 18:17 N6 P1
+PFM | P2 cn if T1 c . | PRR | Q1 if P2 cnf, P1 cnf then L1 s end . | 16:7 N1 P2, 16:18 N5 cnf, 18:1 N1 P2
+PFM | P1 cn if T1 c . | PRR | Q1 P1 cnf . | 16:7 N3 cnf
+PFM | P1 cn if T1 c . | FOP | L1 s if P1 cnf, P1 crf . | 20:20 N5 crf
+PFM | P1 cr if T1 c . | OPT | 1 bit 0 if P1 cnf, P1 crf . | 22:15 N5 cnf
+PFM | P1 cn if T1 c . | IPT | 1 if P1 cnf, P1 crf then L1 s end . | 24:17 N5 crf
+OPT | 1 bit 0 if T1 c . | IPT | 1 L1 s . |
+TFM | 64 points P1 at 0 . 2 signal S1 at 0, S2 at 1 . 3 track T1 at 0 . | OPT | 64 bit 0 if T1 c . 1 bit 0 if T1 c . | 14:1 N7 64, 22:20 N1 1
+TFM | 64 points P1 at 0 . 2 signal S1 at 0, S2 at 1 . 3 track T1 at 0 . | IPT | 64 L1 s . 1 L1 s . | 14:1 N7 64, 24:11 N1 1
+";
+
+#[test]
+fn faults_between_two_files(rt: HostRuntime) -> Result<(), Fail> {
+    check_pairs(&rt, rt.alloc(), TWO_FILES)
+}
+
+#[test]
+fn statements_up_to_their_limit(rt: HostRuntime) -> Result<(), Fail> {
+    let alloc = rt.alloc();
+    let mut statements = String::new(alloc);
+    for _ in 0..4096 {
+        statements.push_str("L1 s if L1 s . ")?;
+    }
+    check_rows(&rt, alloc, &[(FOP, statements.as_str(), "")])?;
+    // Each of them takes 15 columns.
+    statements.push_str("L1 s, L1 xs if L1 s . L2 s if L1 s . L1 s if L2 s .")?;
+    let want = "20:61441 N11 L1, 20:61463 N1 L2, 20:61478 N11 L1, 20:61486 N1 L2";
+    check_rows(&rt, alloc, &[(FOP, statements.as_str(), want)])
+}
+
+#[test]
+fn faults_of_rules_follow_those_of_identities(rt: HostRuntime) -> Result<(), Fail> {
     let text = "file PTS\nfile SIG\nfile TCS\nfile RTE\nfile SUB\nfile FLG\nL1 . L1 .\n\
-        file TFM\n0 track .\nfile PRR\nQ1 L2 s . Q1 L1 o .\nfile PFM\nfile FOP\nfile OPT\nfile IPT\n";
-    let want = "7:6 N2 L1, 9:1 N7 0, 11:4 N1 L2, 11:11 N6 Q1, 11:17 N3 o";
+        file TFM\n0 track .\nfile PRR\nQ1 L2 s . Q1 L1 o .\nfile PFM\nP1 cn if 1 h .\n\
+        file FOP\nL1 c if L3 s .\nfile OPT\n1 bit 9 if L1 f .\nfile IPT\n0 if 8 h then L1 l end .\n";
+    let want = "7:6 N2 L1, 9:1 N7 0, 11:4 N1 L2, 11:11 N6 Q1, 11:17 N3 o, 13:1 N1 P1, 13:10 N4 1, \
+        15:4 N3 c, 15:9 N1 L3, 17:1 N1 1, 17:7 N7 9, 17:15 N3 f, 19:6 N7 8, 19:18 N3 l";
     check_faults(&rt, rt.alloc(), text, want)
 }
 
@@ -418,163 +574,6 @@ fn a_track_past_all_numbers_is_declared(rt: HostRuntime) -> Result<(), Fail> {
     assert_eq!(rt; faults.len(), 70_001);
     let first = show_faults(alloc, text.as_str().as_bytes(), &faults.as_slice()[..1])?;
     assert_eq!(rt; first.as_str(), "2:17 N1 T70000");
-    Ok(())
-}
-
-/// The names and numbers of a data set, a list a line.
-fn show_plan(alloc: Global, plan: &DataSet) -> Result<String, Fail> {
-    let mut shown = String::new(alloc);
-    for row in plan.points.as_slice() {
-        put_row(alloc, &mut shown, row.name.bytes(), row.tracks.as_slice())?;
-    }
-    shown.push_str("|")?;
-    for name in plan.signals.as_slice() {
-        put_row(alloc, &mut shown, name.bytes(), &[])?;
-    }
-    shown.push_str("|")?;
-    for name in plan.tracks.as_slice() {
-        put_row(alloc, &mut shown, name.bytes(), &[])?;
-    }
-    shown.push_str("|")?;
-    for row in plan.routes.as_slice() {
-        put_row(alloc, &mut shown, row.name.bytes(), &[row.signal])?;
-        put_row(alloc, &mut shown, b"by", row.subs.as_slice())?;
-    }
-    shown.push_str("|")?;
-    for row in plan.subs.as_slice() {
-        put_row(alloc, &mut shown, row.name.bytes(), &[row.track])?;
-        for (points, reverse) in row.lies.as_slice() {
-            let lie = if *reverse { b"cr" } else { b"cn" };
-            put_row(alloc, &mut shown, lie, &[*points])?;
-        }
-    }
-    shown.push_str("|")?;
-    for name in plan.flags.as_slice() {
-        put_row(alloc, &mut shown, name.bytes(), &[])?;
-    }
-    Ok(shown)
-}
-
-/// A name and numbers.
-fn put_row(alloc: Global, shown: &mut String, name: &[u8], numbers: &[u16]) -> Result<(), Fail> {
-    shown.push_str(" ")?;
-    for letter in name {
-        shown.push(char::from(*letter))?;
-    }
-    for number in numbers {
-        shown.push_str(format!(in alloc; ":{number}")?.as_str())?;
-    }
-    Ok(())
-}
-
-/// The requests of a data set, each with its body.
-fn show_requests(alloc: Global, plan: &DataSet) -> Result<String, Fail> {
-    let mut shown = String::new(alloc);
-    for row in plan.requests.as_slice() {
-        put_row(alloc, &mut shown, row.name.bytes(), &[])?;
-        for item in row.body.items.as_slice() {
-            put_item(alloc, &mut shown, item)?;
-        }
-    }
-    Ok(shown)
-}
-
-/// A command, or a choice between commands.
-fn put_item(alloc: Global, shown: &mut String, item: &BodyItem) -> Result<(), Fail> {
-    match item {
-        BodyItem::Do(command) => put_command(alloc, shown, command),
-        BodyItem::If {
-            guard,
-            then_body,
-            else_body,
-        } => {
-            shown.push_str(" if")?;
-            put_cond(alloc, shown, guard)?;
-            shown.push_str(" then")?;
-            put_commands(alloc, shown, then_body)?;
-            if let Some(body) = else_body {
-                shown.push_str(" else")?;
-                put_commands(alloc, shown, body)?;
-            }
-            shown.push_str(" end")?;
-            Ok(())
-        }
-    }
-}
-
-fn put_cond(alloc: Global, shown: &mut String, cond: &Cond) -> Result<(), Fail> {
-    for item in cond.items.as_slice() {
-        match item {
-            CondItem::Lit { fact, wanted } => put_fact(alloc, shown, *fact, *wanted)?,
-            _ => shown.push_str(" ?")?,
-        }
-    }
-    Ok(())
-}
-
-fn put_commands(alloc: Global, shown: &mut String, body: &Body) -> Result<(), Fail> {
-    for item in body.items.as_slice() {
-        if let BodyItem::Do(command) = item {
-            put_command(alloc, shown, command)?;
-        }
-    }
-    Ok(())
-}
-
-fn put_command(alloc: Global, shown: &mut String, command: &Cmd) -> Result<(), Fail> {
-    put_fact(alloc, shown, command.fact, command.value)
-}
-
-/// A fact and its value.
-fn put_fact(alloc: Global, shown: &mut String, fact: u16, value: bool) -> Result<(), Fail> {
-    let digit = if value { 1 } else { 0 };
-    shown.push_str(format!(in alloc; " {fact}={digit}")?.as_str())?;
-    Ok(())
-}
-
-/// The modules of a data set, each with its address, its kind and its pins.
-fn show_modules(alloc: Global, plan: &DataSet) -> Result<String, Fail> {
-    let mut shown = String::new(alloc);
-    for row in plan.modules.as_slice() {
-        shown.push_str(format!(in alloc; " {}:{}", row.address, row.kind)?.as_str())?;
-        for pin in row.pins.as_slice() {
-            put_pin(alloc, &mut shown, *pin)?;
-        }
-        shown.push_str(",")?;
-    }
-    Ok(shown)
-}
-
-fn put_pin(alloc: Global, shown: &mut String, pin: Option<u16>) -> Result<(), Fail> {
-    match pin {
-        Some(identity) => shown.push_str(format!(in alloc; " {identity}")?.as_str())?,
-        None => shown.push_str(" -")?,
-    }
-    Ok(())
-}
-
-#[test]
-fn names_become_numbers(rt: HostRuntime) -> Result<(), Fail> {
-    let alloc = rt.alloc();
-    let text = "file PTS P1 over T2 . P2 over T3, T1 . file SIG S1 . S2 . file TCS T1 . T2 . T3 .\
-        file RTE R1 from S1 by U1, U2 . R2 from S2 by U3, U4 .\
-        file SUB U1 on T2 with P1 cr . U2 on T3 . U3 on T3 with P2 cn, P1 cr . U4 on T2 with P1 cr .\
-        file FLG LAMP-OF-THE-YARD . L1 .\
-        file TFM 1 points P1 at 0, P2 at 1 . 2 signal S1 at 0, S2 at 1 . 3 track T1 at 0, T2 at 1, T3 at 2 .\
-        file PRR Q1 if P2 cr, T3 c, R2 a then U4 l, L1 s else R1 xs end, P1 cn .\
-        Q2 LAMP-OF-THE-YARD xs . file PFM file FOP file OPT file IPT";
-    let Ok(plan) = answer_to(&rt, alloc, text.as_bytes())? else {
-        return Err("faults")?;
-    };
-    let want = " P1:1 P2:2:0| S1 S2| T1 T2 T3| R1:0 by:0:1 R2:1 by:2:3\
-        | U1:1 cr:0 U2:2 U3:2 cn:1 cr:0 U4:1 cr:0| LAMP-OF-THE-YARD L1";
-    assert_eq!(rt; show_plan(alloc, &plan)?.as_str(), want);
-    assert_eq!(rt;
-        show_requests(alloc, &plan)?.as_str(),
-        " Q1 if 3=1 10=0 14=0 then 18=1 20=1 else 11=0 end 0=0 Q2 19=0"
-    );
-    let modules = " 1:0 0 1, 2:1 0 1 - - - - - -, 3:2 0 1 2 - - - - -,";
-    assert_eq!(rt; show_modules(alloc, &plan)?.as_str(), modules);
     Ok(())
 }
 

@@ -1,6 +1,7 @@
-//! The characters of a name, a word or a number, and the number that digits stand for.
+//! The characters of a name, a word or a number, the number that digits stand for, and the word for a lie.
 
 ghost use Rattle.std.specs.Prelude.{◌≡◌, ◌≤◌, ◌+◌, ◌-◌, ◌*◌, min, length};
+ghost use Rattle.ssi_names.specs.Declarations.{is_reverse as says_reverse};
 ghost use Rattle.ssi_names.specs.Texts as spec;
 
 use ssi_terms::Spot;
@@ -32,4 +33,11 @@ fn with_digit(value: u8, digit: u8) -> u8
 {
     let more = 10 * u32::from(value) + u32::from(digit.saturating_sub(b'0'));
     more.min(255) as u8
+}
+
+/// Whether the word for a lie says reverse.
+pub fn is_reverse(text: &[u8], word: &Spot) -> bool
+    ensures { result ≡ says_reverse text.now word.now }
+{
+    characters(text, word) == b"cr".as_slice()
 }

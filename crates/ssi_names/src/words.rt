@@ -3,6 +3,7 @@
 ghost use Rattle.std.specs.Prelude.{◌≡◌, IfSome};
 ghost use Rattle.ssi_identities.specs.declared.fact.Kind.TheVariants.{Points};
 ghost use Rattle.ssi_identities.specs.Facts.{identity_of};
+ghost use Rattle.ssi_identities.specs.Allowed.{is_decided as is_decided_fact, is_reported as is_reported_fact};
 ghost use Rattle.ssi_names.specs.Words as spec;
 
 use crate::rule_file::RuleFile;
@@ -83,20 +84,37 @@ fn lie_of_points(word: &[u8]) -> Option<bool>
     }
 }
 
-/// Whether the bodies of a file may command what a word says.
+/// Whether the entries of a file may command what a word says.
 pub fn may_command(file: RuleFile, said: Option<(FactKind, bool)>) -> bool
     ensures { result ≡ spec.may_command file said }
 {
     match said {
         Some((fact, _)) => match file {
-            RuleFile::Requests => is_fact_of_requests(fact),
+            RuleFile::Requests | RuleFile::Statements => is_decided(fact),
+            RuleFile::Moves | RuleFile::Outputs => false,
+            RuleFile::Inputs => is_reported(fact),
         },
         None => false,
     }
 }
 
-fn is_fact_of_requests(fact: FactKind) -> bool
-    ensures { result ≡ spec.is_fact_of_requests fact }
+/// Whether a file says when points are free to move.
+pub fn is_of_moves(file: RuleFile) -> bool
+    ensures { result ≡ spec.is_of_moves file }
+{
+    matches!(file, RuleFile::Moves)
+}
+
+/// Whether a file takes in reports.
+pub fn is_of_inputs(file: RuleFile) -> bool
+    ensures { result ≡ spec.is_of_inputs file }
+{
+    matches!(file, RuleFile::Inputs)
+}
+
+/// Whether it is a fact that the interlocking decides.
+fn is_decided(fact: FactKind) -> bool
+    ensures { result ≡ is_decided_fact fact }
 {
     matches!(
         fact,
@@ -104,6 +122,20 @@ fn is_fact_of_requests(fact: FactKind) -> bool
             | FactKind::RouteSet
             | FactKind::RouteBarred
             | FactKind::Locked
+            | FactKind::FlagSet
+    )
+}
+
+/// Whether it is a fact that is reported from the lineside, or a flag.
+fn is_reported(fact: FactKind) -> bool
+    ensures { result ≡ is_reported_fact fact }
+{
+    matches!(
+        fact,
+        FactKind::DetectedNormal
+            | FactKind::DetectedReverse
+            | FactKind::Lamp
+            | FactKind::Occupied
             | FactKind::FlagSet
     )
 }

@@ -3,8 +3,8 @@
 ghost use Rattle.std.specs.Prelude.{◌≡◌, ◌≢◌, ◌≤◌, List, Ok, Err, length, IfOk};
 ghost use Rattle.ssi_identities.specs.DataSets.{counts_of};
 ghost use Rattle.ssi_identities.specs.Facts.{IsWithinLimits};
+ghost use Rattle.ssi_identities.specs.Wells.{IsWell};
 ghost use Rattle.ssi_names.specs.Spelled.{IsSpelledIn};
-ghost use Rattle.ssi_names.specs.Well.{IsWell};
 ghost use Rattle.ssi_run.specs.declared.script.ScriptStep.{ScriptStep as Step};
 ghost use Rattle.ssi_run.specs.Statuses.{input_limit};
 ghost use Rattle.ssi_run.specs.Traces.{cycles_in, trace_of};
@@ -100,7 +100,8 @@ fn run_tree<K: Sink>(
     tokens: &mut Tokens<'_>,
     sink: &mut K,
 ) -> Result<Status, Failed>
-    requires { IsSpelledIn input.now tree.now }
+    requires short { length input.now ≤ input_limit }
+    requires spelled { IsSpelledIn input.now tree.now }
     ensures answered { result ≢ Ok Status.NoMemory → Replies (TreeAnswers input.now tree.now tokens.old.left tokens.old.end)
         (K.written sink.old) (K.written sink.new) (K.faults sink.old) (K.faults sink.new) result }
     ensures nothing { result ≡ Ok Status.NoMemory → sink.new ≡ sink.old }

@@ -139,9 +139,30 @@ fn layout_of_groups(alloc: Global, opened: &str) -> Result<String, Fail> {
     )?)
 }
 
+/// A junction with all of its rules, of which line 14 is the entry of this sub-route.
+fn junction_with(alloc: Global, sub: &str) -> Result<String, Fail> {
+    Ok(format!(in alloc;
+        "file PTS\nP1 over T2 .\nfile SIG\nS1 .\nS2 .\nfile TCS\nT1 .\nT2 .\nT3 .\n\
+        file RTE\nR1 from S1 by U1, U2 .\nR2 from S2 by U3, U4 .\n\
+        file SUB\n{sub}\nU2 on T3 .\nU3 on T3 .\nU4 on T2 with P1 cr .\nfile FLG\n\
+        file TFM\n1 points P1 at 0 .\n2 signal S1 at 0, S2 at 1 .\n3 track T1 at 0, T2 at 1, T3 at 2 .\n\
+        file PRR\nQ1 if R1 a, P1 crf, U3 f, U4 f then R1 s, P1 cr, U1 l, U2 l end .\n\
+        Q2 if R2 a, P1 crf, U1 f, U2 f then R2 s, P1 cr, U3 l, U4 l end .\nQ3 if P1 cnf then P1 cn end .\n\
+        file PFM\nP1 cn if T2 c, U1 f, U4 f .\nP1 cr if T2 c .\n\
+        file FOP\nU1 f if R1 xs, T2 c .\nU2 f if U1 f, T3 c .\nU3 f if R2 xs, T3 c .\nU4 f if U3 f, T2 c .\n\
+        R1 xs if T2 o, U1 l .\nR2 xs if T3 o, U3 l .\n\
+        file OPT\n1 bit 0 if P1 cn bit 1 if P1 cr .\n\
+        2 bit 0 if R1 s, U1 l, U2 l, P1 dr, T2 c, T3 c bit 1 if R2 s, U3 l, U4 l, P1 dr, T2 c, T3 c .\n\
+        file IPT\n1 if 0 h then P1 dn else P1 xdn end, if 1 h then P1 dr else P1 xdr end .\n\
+        2 if 0 h then S1 lp else S1 xlp end, if 1 h then S2 lp else S2 xlp end .\n\
+        3 if 0 h then T1 c else T1 o end, if 1 h then T2 c else T2 o end, if 2 h then T3 c else T3 o end .\n"
+    )?)
+}
+
 #[test]
 fn every_fault_of_a_layout_is_listed(rt: HostRuntime) -> Result<(), Fail> {
     let alloc = rt.alloc();
+    let points_twice = junction_with(alloc, "U1 on T2 with P1 cr, P1 cn .")?;
     let nine_groups = layout_of_groups(alloc, "(((((((((")?;
     let long = layout_of_flag(alloc, "LAAAAAAAAAAAAAAAA")?;
     let cases = [
@@ -153,6 +174,7 @@ fn every_fault_of_a_layout_is_listed(rt: HostRuntime) -> Result<(), Fail> {
             THREE_FAULTS,
             "fault 8:1 N2 L1\nfault 11:10 N3 c\nfault 11:17 N1 L7\n",
         ),
+        (points_twice.as_str(), "fault 14:22 N12 P1\n"),
         (long.as_str(), "fault 7:1 L2\n"),
         (WITHOUT_END, "fault 11:22 S1\n"),
         (nine_groups.as_str(), "fault 10:15 S2\n"),
@@ -173,6 +195,9 @@ fn other_scripts_are_told_later(rt: HostRuntime) -> Result<(), Fail> {
     let alloc = rt.alloc();
     let wired =
         "file PTS file SIG file TCS T1 . file RTE file SUB file FLG file TFM 5 track T1 at 0 . file PRR file PFM file FOP file OPT file IPT ";
+    let stated =
+        "file PTS file SIG file TCS file RTE file SUB file FLG L1 . file TFM file PRR file PFM file FOP L1 s if L1 xs . file OPT file IPT ";
+    let junction = junction_with(alloc, "U1 on T2 with P1 cr .")?;
     let cases = [
         (FLAGS, "file RUN panel 1 Q1 ."),
         (FLAGS, "file RUN panel 0 Q3 ."),
@@ -184,8 +209,10 @@ fn other_scripts_are_told_later(rt: HostRuntime) -> Result<(), Fail> {
         (FLAGS, "file RUN cycle 1 . \u{e9}"),
         (FLAGS, "file RUM cycle 1 ."),
         (FLAGS, ""),
-        // A layout with a module isn't run yet.
+        // A layout with a module or with a statement isn't run yet.
         (wired, "file RUN cycle 1 ."),
+        (stated, "file RUN cycle 1 ."),
+        (junction.as_str(), "file RUN cycle 1 ."),
     ];
     for (layout, script) in cases {
         let (status, written) = run(alloc, layout, script)?;

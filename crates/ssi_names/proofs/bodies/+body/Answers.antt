@@ -1,4 +1,4 @@
-use Rattle.std.proofs.Common.{List, ◌++◌, map, ap, sym, ◌∙◌}
+use Rattle.std.proofs.Common.{List, ◌++◌, ap, sym, ◌∙◌}
 use Rattle.std.specs.Option.{option_map}
 use Rattle.ssi_names.specs.Bodies.{part_step, body_step, else_faults}
 use Rattle.ssi_names.specs.declared.fault.Fault.{Fault}

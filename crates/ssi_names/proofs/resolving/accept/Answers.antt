@@ -1,6 +1,7 @@
 use Rattle.std.proofs.Common.{◌∙◌, sym, subst}
-use Rattle.ssi_names.specs.Well.{IsWell}
+use Rattle.ssi_identities.specs.Wells.{IsWell}
 use Rattle.ssi_names.proofs.Fine.{same_plan, small_tables}
+use Rattle.ssi_names.proofs.OwnPlaces.{places_of_modules, places_of_points}
 use Rattle.ssi_names.proofs.Wellness.{is_well}
 use Rattle.ssi_names.proofs.WellModules.{addresses_small}
 use Rattle.ssi_names.proofs.resolving.accept.Goals as goal
@@ -10,6 +11,12 @@ data_set-requires-clause-small c = small_tables c.args.text.now c.args.tree.now 
 
 pub data_set-requires-clause-addresses : goal.data_set-requires-clause-addresses
 data_set-requires-clause-addresses c = addresses_small c.args.text.now c.args.tree.now c.requires.fine
+
+pub data_set-requires-clause-points : goal.data_set-requires-clause-points
+data_set-requires-clause-points c = places_of_points c.args.text.now c.args.tree.now c.args.tables.now c.requires.tables c.requires.fine
+
+pub data_set-requires-clause-modules : goal.data_set-requires-clause-modules
+data_set-requires-clause-modules c = places_of_modules c.args.text.now c.args.tree.now c.args.tables.now c.requires.tables c.requires.fine
 
 pub returns-in-Ok : goal.returns-in-Ok
 returns-in-Ok c =

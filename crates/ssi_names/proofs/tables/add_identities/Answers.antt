@@ -26,6 +26,8 @@ returns c =
     (c.as_slice-6.ensures.value ∙ ap (λ (t : IdentityText). t.flags) tree) in
     let wired = added (λ (pin : Spot × Spot). characters text pin.0) _ _ _ _ c.in_ok-add_wired.ensures (ap (λ (t : Tables). t.wired) none)
     (ap pins_of (c.as_slice-7.ensures.value ∙ ap (λ (t : IdentityText). t.modules) tree)) in
+    let addresses = added (λ (e : ModuleText). characters text e.address) _ _ _ _ c.in_ok-add_names-7.ensures (ap (λ (t : Tables). t.addresses) none)
+    (c.as_slice-8.ensures.value ∙ ap (λ (t : IdentityText). t.modules) tree) in
     (λ i. record {
       points = points i;
       signals = signals i;
@@ -35,6 +37,7 @@ returns c =
       flags = flags i;
       requests = ap (λ (t : Tables). t.requests) none i;
       wired = wired i;
+      addresses = addresses i;
       free_normal = ap (λ (t : Tables). t.free_normal) none i;
       free_reverse = ap (λ (t : Tables). t.free_reverse) none i;
     })

@@ -1,4 +1,4 @@
-use Rattle.std.proofs.Common.{◌≡◌, map, take}
+use Rattle.std.proofs.Common.{◌≡◌, take}
 use Rattle.std.specs.Prelude.{fold}
 use Rattle.ssi_names.specs.Declarations.{names_at, pins_of}
 use Rattle.ssi_names.specs.NameLists.{with_name}

@@ -1,8 +1,8 @@
 use Rattle.std.specs.Prelude.{[]}
 use Rattle.ssi_names.proofs.tests.answer_to.Goals as goal
 
-pub resolve-requires : goal.resolve-requires
-resolve-requires g c =
+pub resolve-requires-clause-spelled : goal.resolve-requires-clause-spelled
+resolve-requires-clause-spelled g c =
     let taken = c.in_ok-tree.ensures.found in
     record {
       lexemes = c.new-tokens.result.left;

@@ -6,8 +6,8 @@ use Rattle.ssi_run.specs.FaultLines.{lexical_line, syntax_line, depth_line}
 use Rattle.ssi_run.proofs.Replying.{mapped, replies}
 use Rattle.ssi_run.proofs.input.run_input.Goals as goal
 
-pub run_tree-requires : goal.run_tree-requires
-run_tree-requires g c =
+pub run_tree-requires-clause-spelled : goal.run_tree-requires-clause-spelled
+run_tree-requires-clause-spelled g c =
     let takes = c.in-Ok.ensures.found in
     record { lexemes = _; end = _; tokens = c.new-tokens.ensures.tokens; before = []; files = takes.used; after = _; parts = takes.parts; spells = takes.spells }
 
