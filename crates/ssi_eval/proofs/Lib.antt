@@ -1,0 +1,11 @@
+pub mod Levels
+pub mod ItemFronts
+pub mod ReadItems
+pub mod Walking
+pub mod Starting
+pub mod Choices
+pub mod BodyLevels
+pub mod BodyFronts
+pub mod Running
+pub mod AtPlaces
+pub mod HandMade

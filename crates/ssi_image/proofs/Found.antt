@@ -1,0 +1,166 @@
+-- The modules and pins that the tables of an image find.
+use Rattle.std.proofs.Common.{◌≡◌, ◌≢◌, ℕ, zero, suc, ◌+◌, ◌<◌, ◌≤◌, Bool, true, false, not, List, [], ◌∷◌, ◌++◌, length, map, Option, Some, None, option_map, refl, ap, sym, subst, ◌∙◌, arith, cond}
+use Rattle.std.specs.Prelude.{◌==◌, if◌then◌else◌, All, get_or, position, slice_get}
+use Rattle.std.specs.List.{count_by, flat_map, prefix_len, position_or_len}
+use Rattle.std.proofs.lemmas.Bool.Decides.{nat_tests}
+use Rattle.std.proofs.lemmas.Grind.{common_steps}
+use Rattle.std.proofs.lemmas.List.{length-map}
+use Rattle.std.proofs.lemmas.List.Elements.{All-head, All-tail}
+use Rattle.std.proofs.lemmas.List.Sums.{sum_by-append, sum_by-cons}
+use Rattle.std.proofs.lemmas.Option.{slice_get-map}
+use Rattle.ssi_identities.specs.declared.fact.Kind.{Kind}
+use Rattle.ssi_identities.specs.declared.fact.Kind.TheVariants.{Points, Signal, Track, Route, Subroute, Flag, Request}
+use Rattle.ssi_identities.specs.DataSets.{ModulePlan, Plan, PointsPlan, names_in}
+use Rattle.ssi_identities.specs.Wells.{IsWell, IsWellModule, is_wired_to, pins_of_kind, wired_kind}
+use Rattle.ssi_image.specs.Packed.{Packed, Wiring, packed_of, packed_points, wiring_of}
+use Rattle.ssi_image.specs.Places.{IsWiredTo, is_wired_kind, module_with}
+use Rattle.ssi_image.specs.Tables.{IsWiredAt, ArePlaces, AreWires, AreTablesOf, TablesOf, wires_of}
+
+-- ---- addresses
+
+abbrev at : ℕ → Wiring → Bool
+at address row = row.address == address
+
+abbrev has : ℕ → ModulePlan → Bool
+has address row = row.address == address
+
+first_same : (address : ℕ) (rows : List ModulePlan) → position_or_len (at address) (map wiring_of rows) ≡ position_or_len (has address) rows
+first_same address [] = refl
+first_same address (row ∷ rows) = ap (λ n. cond (not (row.address == address)) (1 + n) 0) (first_same address rows)
+
+place_same : (address : ℕ) (rows : List ModulePlan) → position (at address) (map wiring_of rows) ≡ position (has address) rows
+place_same address rows = rw (first_same address rows, length-map rows wiring_of) refl
+
+-- the module that the table has at an address is the one that has it
+pub place_found : (plan shown : Plan) (packed : Packed) (tables : TablesOf) (address : ℕ) (place : Option ℕ) → packed ≡ packed_of plan → plan ≡ shown → AreTablesOf packed tables → address < 64
+    → place ≡ get_or tables.places address None → place ≡ module_with shown address
+place_found plan shown packed tables address place is same are within here =
+    here ∙ are.places_are address within ∙ ap (λ (p : Packed). position (at address) p.modules) is ∙ place_same address plan.modules ∙ ap (λ (p : Plan). position (has address) p.modules) same
+
+none_at : (plan : Plan) (address : ℕ) (rows : List ModulePlan) → All (IsWellModule plan) rows → 64 ≤ address → position_or_len (has address) rows ≡ length rows
+none_at plan address [] all past = refl
+none_at plan address (row ∷ rows) all past =
+    let few = (All-head (IsWellModule plan) row rows all).few in
+    let apart : (row.address == address) ≡ false = grind (arith, nat_tests) in
+    let rest = none_at plan address rows (All-tail (IsWellModule plan) row rows all) past in
+    rw apart (omega arith)
+
+-- no module has an address past the last
+pub place_past : (plan shown : Plan) (address : ℕ) → IsWell plan → plan ≡ shown → 64 ≤ address → None ≡ module_with shown address
+place_past plan shown address well same past =
+    let none = none_at plan address plan.modules well.modules past in
+    let nothing : position (has address) plan.modules ≡ None = grind (arith, nat_tests, common_steps) in
+    sym nothing ∙ ap (λ (p : Plan). position (has address) p.modules) same
+
+-- ---- wires
+
+count_more : {X : Type 0} (p : X → Bool) (xs ys : List X) → count_by p (xs ++ ys) ≡ count_by p xs + count_by p ys
+count_more p xs ys = sum_by-append (λ x. cond (p x) 1 0) xs ys
+
+some_pin : (identity : ℕ) (pins : List (Option ℕ)) → 0 < count_by (is_wired_to identity) pins → (pin : ℕ) × (slice_get pins pin ≡ Some (Some identity))
+some_pin identity [] some = absurd (omega arith)
+some_pin identity (None ∷ pins) some =
+    let rest = some_pin identity pins (omega (arith, sum_by-cons (λ (x : Option ℕ). cond (is_wired_to identity x) 1 0) None pins)) in
+    (suc rest.0, rest.1)
+some_pin identity (Some wired ∷ pins) some = by_case (some_pin identity pins) (wired == identity) refl
+  where
+    by_case : (0 < count_by (is_wired_to identity) pins → (pin : ℕ) × (slice_get pins pin ≡ Some (Some identity))) → (b : Bool) → (wired == identity) ≡ b → (pin : ℕ) × (slice_get (Some wired ∷ pins) pin ≡ Some (Some identity))
+    by_case rest true e = let same : wired ≡ identity = grind (arith, nat_tests) in (0, ap (λ i. Some (Some i)) same)
+    by_case rest false e =
+        let first : cond {A = ℕ} (is_wired_to identity (Some wired)) 1 0 ≡ 0 = rw e refl in
+        let found = rest (omega (arith, sum_by-cons (λ (x : Option ℕ). cond (is_wired_to identity x) 1 0) (Some wired) pins)) in
+        (suc found.0, found.1)
+
+abbrev own_pins : ℕ → ModulePlan → List (Option ℕ)
+own_pins kind row = if row.kind == kind then row.pins else []
+
+later : (kind identity : ℕ) (row : Wiring) (rows : List Wiring) → (place : ℕ × ℕ) × IsWiredAt rows kind identity place → (place : ℕ × ℕ) × IsWiredAt (row ∷ rows) kind identity place
+later kind identity row rows found = ((suc found.0.0, found.0.1), record { row = found.1.row; row_is = found.1.row_is; kind_is = found.1.kind_is; pin_is = found.1.pin_is })
+
+some_place : (kind identity : ℕ) (rows : List ModulePlan) → 0 < count_by (is_wired_to identity) (flat_map (own_pins kind) rows) → (place : ℕ × ℕ) × IsWiredAt (map wiring_of rows) kind identity place
+some_place kind identity [] some = absurd (omega arith)
+some_place kind identity (row ∷ rows) some = by_kind (some_place kind identity rows) (row.kind == kind) refl
+  where
+    by_count : (0 < count_by (is_wired_to identity) (flat_map (own_pins kind) rows) → (place : ℕ × ℕ) × IsWiredAt (map wiring_of rows) kind identity place) → (b : Bool)
+        → (count_by (is_wired_to identity) row.pins == 0) ≡ b → row.kind ≡ kind → own_pins kind row ≡ row.pins → (place : ℕ × ℕ) × IsWiredAt (map wiring_of (row ∷ rows)) kind identity place
+    by_count rest true e own pins =
+        let more = count_more (is_wired_to identity) (own_pins kind row) (flat_map (own_pins kind) rows) in
+        let none : count_by (is_wired_to identity) row.pins ≡ 0 = grind (arith, nat_tests) in
+        let same = ap (count_by (is_wired_to identity)) pins in
+        later kind identity (wiring_of row) (map wiring_of rows) (rest (omega arith))
+    by_count rest false e own pins =
+        let found = some_pin identity row.pins (grind (arith, nat_tests)) in
+        ((0, found.0), record { row = wiring_of row; row_is = refl; kind_is = own; pin_is = found.1 })
+
+    by_kind : (0 < count_by (is_wired_to identity) (flat_map (own_pins kind) rows) → (place : ℕ × ℕ) × IsWiredAt (map wiring_of rows) kind identity place) → (b : Bool) → (row.kind == kind) ≡ b
+        → (place : ℕ × ℕ) × IsWiredAt (map wiring_of (row ∷ rows)) kind identity place
+    by_kind rest true e = by_count rest (count_by (is_wired_to identity) row.pins == 0) refl (grind (arith, nat_tests)) (rw e refl)
+    by_kind rest false e =
+        let none : own_pins kind row ≡ [] = rw e refl in
+        let same = ap (λ ps. count_by (is_wired_to identity) (ps ++ flat_map (own_pins kind) rows)) none in
+        later kind identity (wiring_of row) (map wiring_of rows) (rest (omega arith))
+
+row_of : (rows : List ModulePlan) (n : ℕ) (wiring : Wiring) → slice_get (map wiring_of rows) n ≡ Some wiring → (row : ModulePlan) × (slice_get rows n ≡ Some row) × (wiring_of row ≡ wiring)
+row_of [] n wiring is = absurd cc
+row_of (row ∷ rows) zero wiring is = (row, refl, cc)
+row_of (row ∷ rows) (suc n) wiring is = row_of rows n wiring is
+
+-- a wire of the table is one of the data set
+pub wire_is : (plan : Plan) (kind : ℕ) (identity : ℕ) (wire : ℕ × ℕ) → IsWiredAt (map wiring_of plan.modules) kind identity wire → IsWiredTo plan (wired_kind kind) identity wire.0 wire.1
+wire_is plan kind identity wire at =
+    let row = row_of plan.modules wire.0 at.row at.row_is in
+    record {
+      row = row.0;
+      row_is = row.1;
+      kind_is = ap wired_kind (ap (λ (w : Wiring). w.kind) row.2 ∙ at.kind_is);
+      pin_is = ap (λ (w : Wiring). slice_get w.pins wire.1) row.2 ∙ at.pin_is;
+    }
+
+-- what the table has of an identity is what it is wired to
+wire_found : (plan : Plan) (kind identity : ℕ) (table : List (ℕ × ℕ)) (wire : ℕ × ℕ) → IsWell plan → kind ≤ 2 → identity < length (names_in plan (wired_kind kind))
+    → AreWires (map wiring_of plan.modules) kind table → slice_get table identity ≡ Some wire → IsWiredTo plan (wired_kind kind) identity wire.0 wire.1
+wire_found plan kind identity table wire well known within are read =
+    let once : count_by (is_wired_to identity) (pins_of_kind plan kind) ≡ 1 = well.wired kind known identity within in
+    let some = some_place kind identity plan.modules (omega arith) in
+    wire_is plan kind identity wire (are identity some.0 wire read some.1)
+
+pub wire_of_kind : (plan shown : Plan) (packed : Packed) (tables : TablesOf) (kind : Kind) (identity : ℕ) (wire : ℕ × ℕ) → IsWell plan → packed ≡ packed_of plan → plan ≡ shown → AreTablesOf packed tables
+    → is_wired_kind kind ≡ true → identity < length (names_in plan kind) → slice_get (wires_of tables kind) identity ≡ Some wire → IsWiredTo shown kind identity wire.0 wire.1
+wire_of_kind plan shown packed tables kind identity wire well is same are known within read =
+    let modules : packed.modules ≡ map wiring_of plan.modules = ap (λ (p : Packed). p.modules) is in
+    let found = elim kind as (λ (k : Kind). is_wired_kind k ≡ true → identity < length (names_in plan k) → slice_get (wires_of tables k) identity ≡ Some wire → IsWiredTo plan k identity wire.0 wire.1) [
+      | Points ↦ (λ e w r. wire_found plan 0 identity tables.points wire well (omega arith) w (subst (λ (ms : List Wiring). AreWires ms 0 tables.points) modules are.points_are) r)
+      | Signal ↦ (λ e w r. wire_found plan 1 identity tables.signals wire well (omega arith) w (subst (λ (ms : List Wiring). AreWires ms 1 tables.signals) modules are.signals_are) r)
+      | Track ↦ (λ e w r. wire_found plan 2 identity tables.tracks wire well (omega arith) w (subst (λ (ms : List Wiring). AreWires ms 2 tables.tracks) modules are.tracks_are) r)
+      | Route ↦ (λ e w r. absurd cc)
+      | Subroute ↦ (λ e w r. absurd cc)
+      | Flag ↦ (λ e w r. absurd cc)
+      | Request ↦ (λ e w r. absurd cc)
+    ]
+    in
+    subst (λ (p : Plan). IsWiredTo p kind identity wire.0 wire.1) same (found known within read)
+
+-- and it is long enough
+pub table_long : (plan : Plan) (packed : Packed) (tables : TablesOf) (kind : Kind) (identity : ℕ) → packed ≡ packed_of plan → AreTablesOf packed tables → is_wired_kind kind ≡ true
+    → identity < length (names_in plan kind) → identity < length (wires_of tables kind)
+table_long plan packed tables kind identity is are known within =
+    let found = elim kind as (λ (k : Kind). is_wired_kind k ≡ true → identity < length (names_in plan k) → identity < length (wires_of tables k)) [
+      | Points ↦ (λ e w. omega (arith, are.points_long, ap (λ (p : Packed). length p.points) is, length-map plan.points packed_points, length-map plan.points (λ (row : PointsPlan). row.name)))
+      | Signal ↦ (λ e w. omega (arith, are.signals_long, ap (λ (p : Packed). length p.signals) is))
+      | Track ↦ (λ e w. omega (arith, are.tracks_long, ap (λ (p : Packed). length p.tracks) is))
+      | Route ↦ (λ e w. absurd cc)
+      | Subroute ↦ (λ e w. absurd cc)
+      | Flag ↦ (λ e w. absurd cc)
+      | Request ↦ (λ e w. absurd cc)
+    ]
+    in
+    found known within
+
+there : {X : Type 0} (xs : List X) (i : ℕ) (d : X) → i < length xs → slice_get xs i ≡ Some (get_or xs i d)
+there [] i d within = absurd (omega arith)
+there (x ∷ xs) zero d within = refl
+there (x ∷ xs) (suc i) d within = there xs i d (omega arith)
+
+-- what is read of a table
+pub wire_read : (table shown : List (ℕ × ℕ)) (i n : ℕ) → shown ≡ table → n ≡ i → i < length table → slice_get table i ≡ Some (get_or shown n (0, 0))
+wire_read table shown i n same place within = there table i (0, 0) within ∙ ap (λ (t : List (ℕ × ℕ)). Some (get_or t i (0, 0))) (sym same) ∙ ap (λ (m : ℕ). Some (get_or shown m (0, 0))) (sym place)

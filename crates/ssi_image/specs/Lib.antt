@@ -1,0 +1,7 @@
+pub mod Places
+pub mod Packed
+pub mod Shown
+pub mod OneCode
+pub mod OnePlan
+pub mod Tables
+pub mod Opcodes
