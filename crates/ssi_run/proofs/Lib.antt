@@ -8,5 +8,6 @@ pub mod OneAnswer
 pub mod SomeAnswer
 pub mod Replying
 pub mod Promises
-pub mod NewNames
+pub mod Taking
 pub mod FaultTexts
+pub mod Runs

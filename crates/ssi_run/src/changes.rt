@@ -9,21 +9,23 @@ ghost use Rattle.ssi_run.specs.WorkedChanges.{all_are, mixed, one_of_each};
 
 use crate::pieces::write_two;
 use ssi_base::{Failed, Sink};
-use ssi_identities::{DataSet, FactKind, fact_of};
+use ssi_identities::{FactKind, fact_of};
+use ssi_image::Image;
+use ssi_state::State;
 
 /// Writes a fact with its value.
 #[tactic(auto, using(ssi_base::proofs::Writing::joins))]
 fn write_fact<K: Sink>(
     sink: &mut K,
-    plan: &DataSet,
+    image: &Image,
     kind: FactKind,
     index: u16,
     value: bool,
 ) -> Result<(), Failed>
     ensures { Writes (K.written sink.old) (K.written sink.new) (K.faults sink.old) (K.faults sink.new)
-        (fact_text plan.now (record { kind = kind; index = index }) value) result }
+        (fact_text image.now (record { kind = kind; index = index }) value) result }
 {
-    write_two(sink, b" ", plan.name(kind.identity(), index))?;
+    write_two(sink, b" ", image.name(kind.identity(), index))?;
     write_two(sink, b":", kind.word(value))
 }
 
@@ -31,17 +33,17 @@ fn write_fact<K: Sink>(
 #[inline(never)]
 fn write_numbered<K: Sink>(
     sink: &mut K,
-    plan: &DataSet,
+    image: &Image,
     fact: u16,
     value: bool,
 ) -> Result<(), Failed>
-    requires limits { IsWithinLimits (counts_of plan.now) }
-    requires within { fact < fact_count_of (counts_of plan.now) }
+    requires limits { IsWithinLimits (counts_of image.now) }
+    requires within { fact < fact_count_of (counts_of image.now) }
     ensures { Writes (K.written sink.old) (K.written sink.new) (K.faults sink.old) (K.faults sink.new)
-        (fact_text plan.now (fact_at (counts_of plan.now) fact) value) result }
+        (fact_text image.now (fact_at (counts_of image.now) fact) value) result }
 {
-    let (kind, index) = fact_of(&plan.counts(), fact);
-    write_fact(sink, plan, kind, index, value)
+    let (kind, index) = fact_of(&image.counts(), fact);
+    write_fact(sink, image, kind, index, value)
 }
 
 /// Writes each fact whose value differs from the one shown last, and notes it as shown.
@@ -50,21 +52,22 @@ fn write_numbered<K: Sink>(
 #[inline(never)]
 pub fn write_changes<K: Sink>(
     sink: &mut K,
-    plan: &DataSet,
-    shown: &mut [bool],
-    state: &[bool],
+    image: &Image,
+    shown: &mut State,
+    state: &State,
 ) -> Result<(), Failed>
-    requires limits { IsWithinLimits (counts_of plan.now) }
-    requires facts { length state.now ≡ fact_count_of (counts_of plan.now) }
+    requires limits { IsWithinLimits (counts_of image.now) }
+    requires facts { length state.now ≡ fact_count_of (counts_of image.now) }
     requires shown { length shown.old ≡ length state.now }
     ensures noted { OnOk result (shown.new ≡ state.now) }
     ensures writes { Writes (K.written sink.old) (K.written sink.new) (K.faults sink.old) (K.faults sink.new)
-        (changes_of plan.now shown.old state.now) result }
+        (changes_of image.now shown.old state.now) result }
 {
     for fact in 0..state.len() {
-        if shown[fact] != state[fact] {
-            shown[fact] = state[fact];
-            write_numbered(sink, plan, fact as u16, state[fact])?;
+        let value = state.get(fact);
+        if shown.get(fact) != value {
+            shown.set(fact, value);
+            write_numbered(sink, image, fact, value)?;
         }
     }
     Ok(())
@@ -73,21 +76,21 @@ pub fn write_changes<K: Sink>(
 /// Writes the changes of a minor cycle in which this request was taken. Where none was, nothing changed.
 pub fn write_changes_by<K: Sink>(
     sink: &mut K,
-    plan: &DataSet,
+    image: &Image,
     taken: Option<u16>,
-    shown: &mut [bool],
-    state: &[bool],
+    shown: &mut State,
+    state: &State,
 ) -> Result<(), Failed>
-    requires limits { IsWithinLimits (counts_of plan.now) }
-    requires facts { length state.now ≡ fact_count_of (counts_of plan.now) }
+    requires limits { IsWithinLimits (counts_of image.now) }
+    requires facts { length state.now ≡ fact_count_of (counts_of image.now) }
     requires shown { length shown.old ≡ length state.now }
     requires idle { taken ≡ None → state.now ≡ shown.old }
     ensures noted { OnOk result (shown.new ≡ state.now) }
     ensures writes { Writes (K.written sink.old) (K.written sink.new) (K.faults sink.old) (K.faults sink.new)
-        (changes_of plan.now shown.old state.now) result }
+        (changes_of image.now shown.old state.now) result }
 {
     match taken {
-        Some(_) => write_changes(sink, plan, shown, state),
+        Some(_) => write_changes(sink, image, shown, state),
         None => Ok(()),
     }
 }

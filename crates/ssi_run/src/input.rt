@@ -1,8 +1,6 @@
-//! An input within the limit: its data part is read and resolved, and its script is run.
+//! An input within the limit: its data part is read, resolved and compiled, and its script is run.
 
 ghost use Rattle.std.specs.Prelude.{◌≡◌, ◌≢◌, ◌≤◌, List, Ok, Err, length, IfOk};
-ghost use Rattle.ssi_identities.specs.DataSets.{counts_of};
-ghost use Rattle.ssi_identities.specs.Facts.{IsWithinLimits};
 ghost use Rattle.ssi_identities.specs.Wells.{IsWell};
 ghost use Rattle.ssi_names.specs.Spelled.{IsSpelledIn};
 ghost use Rattle.ssi_run.specs.declared.script.ScriptStep.{ScriptStep as Step};
@@ -16,14 +14,16 @@ use crate::fault_lines::{
 };
 use crate::interlocking::Interlocking;
 use crate::refusal::Refusal;
-use crate::requests::request_names;
 use crate::script::{ScriptStep, read_script};
 use crate::status::{Status, told};
 use crate::trace::write_steps;
 use ssi_base::{Failed, Sink, write_all};
+use ssi_compiler::compile;
 use ssi_identities::DataSet;
+use ssi_image::Image;
 use ssi_lexer::Tokens;
 use ssi_names::{ResolveFault, SourceTree, read_source, resolve};
+use ssi_state::State;
 use ssi_terms::ReadFault;
 use std::alloc::Global;
 
@@ -33,23 +33,22 @@ const FAULT_LATER: &[u8] = b"fault later\n";
 /// Does the steps of a script and writes their trace. All memory is taken before the first line.
 fn run_steps<K: Sink>(
     alloc: Global,
-    plan: &DataSet,
+    image: &Image,
     steps: &[ScriptStep],
     sink: &mut K,
 ) -> Result<Status, Failed>
     requires cycles { cycles_in steps.now ≤ 1000000 }
-    requires limits { IsWithinLimits (counts_of plan.now) }
-    ensures answered { result ≢ Ok Status.NoMemory → Replies (λ answer. answer ≡ done (trace_of plan.now steps.now))
+    ensures answered { result ≢ Ok Status.NoMemory → Replies (λ answer. answer ≡ done (trace_of image.now steps.now))
         (K.written sink.old) (K.written sink.new) (K.faults sink.old) (K.faults sink.new) result }
     ensures nothing { result ≡ Ok Status.NoMemory → sink.new ≡ sink.old }
 {
-    let Ok(mut core) = Interlocking::new(alloc, plan) else {
+    let Ok(mut core) = Interlocking::new(alloc, image) else {
         return Ok(Status::NoMemory);
     };
-    let Ok(mut shown) = Vec::from_slice(alloc, core.state()) else {
+    let Ok(mut shown) = State::start(alloc, &image.counts()) else {
         return Ok(Status::NoMemory);
     };
-    let written = write_steps(sink, plan, &mut core, &mut shown, steps);
+    let written = write_steps(sink, image, &mut core, &mut shown, steps);
     told(written, Status::Done)
 }
 
@@ -57,22 +56,40 @@ fn run_steps<K: Sink>(
 fn read_run(
     alloc: Global,
     input: &[u8],
-    plan: &DataSet,
+    image: &Image,
     tokens: &mut Tokens<'_>,
 ) -> Result<Vec<ScriptStep>, Refusal>
-    requires { IsWell plan.now }
-    ensures found { IfOk result (λ steps. IsRun input.now plan.now steps.items tokens.old.left tokens.old.end) }
+    ensures found { IfOk result (λ steps. IsRun input.now image.now steps.items tokens.old.left tokens.old.end) }
     ensures later { result ≡ Err Refusal.Later → (steps : List Step)
-        → ¬ IsRun input.now plan.now steps tokens.old.left tokens.old.end }
+        → ¬ IsRun input.now image.now steps tokens.old.left tokens.old.end }
 {
-    if !plan.modules.is_empty() || !plan.statements.is_empty() {
+    if image.module_count() > 0 || image.statement_count() > 0 {
         return Err(Refusal::Later);
     }
-    let names = request_names(alloc, plan)?;
+    let names = image.names(alloc)?;
     read_script(alloc, input, tokens, &names)
 }
 
-/// Answers a data set and what stands behind the data part.
+/// Answers the image of a layout and what stands behind the data part.
+fn run_image<K: Sink>(
+    alloc: Global,
+    input: &[u8],
+    image: &Image,
+    tokens: &mut Tokens<'_>,
+    sink: &mut K,
+) -> Result<Status, Failed>
+    ensures answered { result ≢ Ok Status.NoMemory → Replies (PlanAnswers input.now image.now tokens.old.left tokens.old.end)
+        (K.written sink.old) (K.written sink.new) (K.faults sink.old) (K.faults sink.new) result }
+    ensures nothing { result ≡ Ok Status.NoMemory → sink.new ≡ sink.old }
+{
+    match read_run(alloc, input, image, tokens) {
+        Ok(steps) => run_steps(alloc, image, steps.as_slice(), sink),
+        Err(Refusal::Later) => told(write_all(sink, FAULT_LATER), Status::Faulty),
+        Err(Refusal::Memory) => Ok(Status::NoMemory),
+    }
+}
+
+/// Answers a data set and what stands behind the data part. Its image is made before the first byte.
 fn run_plan<K: Sink>(
     alloc: Global,
     input: &[u8],
@@ -85,11 +102,10 @@ fn run_plan<K: Sink>(
         (K.written sink.old) (K.written sink.new) (K.faults sink.old) (K.faults sink.new) result }
     ensures nothing { result ≡ Ok Status.NoMemory → sink.new ≡ sink.old }
 {
-    match read_run(alloc, input, plan, tokens) {
-        Ok(steps) => run_steps(alloc, plan, steps.as_slice(), sink),
-        Err(Refusal::Later) => told(write_all(sink, FAULT_LATER), Status::Faulty),
-        Err(Refusal::Memory) => Ok(Status::NoMemory),
-    }
+    let Ok(image) = compile(alloc, plan) else {
+        return Ok(Status::NoMemory);
+    };
+    run_image(alloc, input, &image, tokens, sink)
 }
 
 /// Answers the tree of a data part and what stands behind it.

@@ -2,13 +2,14 @@
 
 ghost use Rattle.std.specs.Prelude.{◌≡◌, ◌∷◌, ◌++◌, ◌<◌, ◌↔◌, length, drop, slice_get, [], None, IfOk, IsErr, IsTrue};
 ghost use Rattle.ssi_identities.specs.DataSets.{counts_of};
-ghost use Rattle.ssi_identities.specs.Facts.{IsWithinLimits};
+ghost use Rattle.ssi_identities.specs.Facts.{fact_count_of};
 ghost use Rattle.ssi_run.specs.Worlds.{effect_in, is_full, minor_cycle_of, start_of, taken_of, with_request};
 
-use crate::evaluation::run_body;
 use arrayvec::ArrayVec;
 use ssi_base::OutOfMemory;
-use ssi_identities::{DataSet, start};
+use ssi_eval::run_body;
+use ssi_image::{BodyAt, Image};
+use ssi_state::State;
 use std::alloc::Global;
 use std::marker::Model;
 
@@ -25,7 +26,7 @@ pub struct Full;
 /// The state of the interlocking and the requests that wait on panel 0.
 #[derive(Drop)]
 pub struct Interlocking {
-    state: Vec<bool>,
+    state: State,
     waiting: ArrayVec<u16, MOST_WAITING>,
 }
 
@@ -34,7 +35,7 @@ impl Model for Interlocking {
 
     ghost Value = { World };
 
-    ghost view = { λ core. record { state = core.state.items; waiting = core.waiting.items } };
+    ghost view = { λ core. record { state = core.state; waiting = core.waiting.items } };
 }
 
 /// Takes the oldest of the requests that wait.
@@ -48,23 +49,25 @@ fn take_oldest(waiting: &mut ArrayVec<u16, MOST_WAITING>) -> Option<u16>
     Some(waiting.remove(0))
 }
 
-/// Runs the body of a request.
-fn run_request(plan: &DataSet, request: u16, state: &mut [bool])
-    ensures { state.new ≡ effect_in plan.now (slice_get plan.now.requests request) state.old }
+/// Does what a request does.
+fn run_request(image: &Image, request: u16, state: &mut State)
+    requires { length state.old ≡ fact_count_of (counts_of image.now) }
+    ensures effect { state.new ≡ effect_in image.now (slice_get image.now.requests request) state.old }
+    ensures facts { length state.new ≡ length state.old }
 {
-    if let Some(row) = plan.requests.get(usize::from(request)) {
-        run_body(plan, &row.body, state, NO_REPORT);
+    let place = BodyAt::Request(request);
+    if image.has_body(place) {
+        run_body(image, place, state, NO_REPORT);
     }
 }
 
 impl Interlocking {
-    /// The interlocking of a data set at its start: no request waits.
-    pub fn new(alloc: Global, plan: &DataSet) -> Result<Interlocking, OutOfMemory>
-        requires { IsWithinLimits (counts_of plan.now) }
-        ensures { IfOk result (λ core. core ≡ start_of plan.now) }
+    /// The interlocking of a layout at its start: no request waits.
+    pub fn new(alloc: Global, image: &Image) -> Result<Interlocking, OutOfMemory>
+        ensures { IfOk result (λ core. core ≡ start_of image.now) }
     {
         Ok(Interlocking {
-            state: start(alloc, &plan.counts())?,
+            state: State::start(alloc, &image.counts())?,
             waiting: ArrayVec::new(),
         })
     }
@@ -82,23 +85,24 @@ impl Interlocking {
     }
 
     /// Makes one minor cycle: takes the oldest request that waits, runs its body, and answers it.
-    pub fn minor_cycle(&mut self, plan: &DataSet) -> Option<u16>
-        ensures cycle { self.new ≡ minor_cycle_of plan.now self.old }
+    pub fn minor_cycle(&mut self, image: &Image) -> Option<u16>
+        requires { length self.old.state ≡ fact_count_of (counts_of image.now) }
+        ensures cycle { self.new ≡ minor_cycle_of image.now self.old }
         ensures taken { result ≡ taken_of self.old.waiting }
         ensures facts { length self.new.state ≡ length self.old.state }
         ensures idle { result ≡ None → self.new.state ≡ self.old.state }
     {
         let taken = take_oldest(&mut self.waiting);
         if let Some(request) = taken {
-            run_request(plan, request, &mut self.state);
+            run_request(image, request, &mut self.state);
         }
         taken
     }
 
     /// The value of each fact, by its number.
-    pub fn state(&self) -> &[bool]
+    pub fn state(&self) -> &State
         ensures { result.now ≡ self.now.state }
     {
-        self.state.as_slice()
+        &self.state
     }
 }

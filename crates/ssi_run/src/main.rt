@@ -9,15 +9,15 @@ mod changes;
 mod command_line;
 #[cfg(test)]
 mod edge_tests;
-mod evaluation;
 mod fault_lines;
 mod input;
 mod interlocking;
 mod output;
+#[cfg(test)]
+mod packed_tests;
 mod pieces;
 mod program;
 mod refusal;
-mod requests;
 mod script;
 mod status;
 #[cfg(test)]

@@ -9,6 +9,6 @@ use Rattle.ssi_run.proofs.changes.write_changes.Given as goal
 abbrev pub invariant-loop-fact : goal.invariant-loop-fact
 invariant-loop-fact g l = record {
   left : IsLeft (g.K.Sink.written l.fn.sink) (g.K.Sink.written l.sink) (g.K.Sink.faults l.fn.sink) (g.K.Sink.faults l.sink)
-      (changes_of l.plan l.fn.shown l.state) (flat_map (change_of l.plan l.fn.shown l.state) (drop l.fact (facts_of (counts_of l.plan))));
+      (changes_of l.image l.fn.shown l.state) (flat_map (change_of l.image l.fn.shown l.state) (drop l.fact (facts_of (counts_of l.image))));
   noted : l.shown ≡ take l.fact l.state ++ drop l.fact l.fn.shown;
 }

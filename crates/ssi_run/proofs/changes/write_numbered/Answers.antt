@@ -6,7 +6,7 @@ use Rattle.ssi_run.proofs.changes.write_numbered.Goals as goal
 
 pub returns : goal.returns
 returns g c =
-    let counts = counts_of c.args.plan.now in
-    let within : c.fact_of-kind.result.1 < count_of counts c.fact_of-kind.result.0 = rw c.counts.ensures at c.fact_of-kind.ensures.within in
-    let number : fact_number_of counts c.fact_of-kind.result.0 c.fact_of-kind.result.1 ≡ c.args.fact = rw c.counts.ensures at c.fact_of-kind.ensures.number in
+    let counts = counts_of c.args.image.now in
+    let within : c.fact_of-kind.result.1 < count_of counts c.fact_of-kind.result.0 = rw c.counts.ensures.counts at c.fact_of-kind.ensures.within in
+    let number : fact_number_of counts c.fact_of-kind.result.0 c.fact_of-kind.result.1 ≡ c.args.fact = rw c.counts.ensures.counts at c.fact_of-kind.ensures.number in
     rw (fact_is counts _ _ _ within number) c.write_fact.ensures

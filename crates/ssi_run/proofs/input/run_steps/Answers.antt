@@ -9,11 +9,11 @@ use Rattle.ssi_run.proofs.Replying.{replies, told_not}
 use Rattle.ssi_run.proofs.input.run_steps.Goals as goal
 
 pub write_steps-written-requires-clause-facts : goal.write_steps-written-requires-clause-facts
-write_steps-written-requires-clause-facts g c = ap (λ (world : World). length world.state) c.in-Ok.ensures ∙ length_of_start (counts_of c.args.plan.now)
+write_steps-written-requires-clause-facts g c = ap (λ (world : World). length world.state) c.in-Ok.ensures ∙ length_of_start (counts_of c.args.image.now)
 
 pub returns-clause-answered : goal.returns-clause-answered
 returns-clause-answered g c = λ told.
-    let trace = done (trace_of c.args.plan.now c.args.steps.now) in
+    let trace = done (trace_of c.args.image.now c.args.steps.now) in
     let start = rw c.in-Ok.ensures at c.write_steps-written.ensures in
     rw c.told.ensures (replies (λ answer. answer ≡ trace) trace refl Done refl c.write_steps-written.result start)
 
