@@ -19,8 +19,13 @@ LIMIT = 2_097_152
 RUNS = 3
 FLAGS = 512
 REQUESTS = 1_024
+STATEMENTS = 4_096
 TRACKS = 504
 WAITING = 64
+CHOICES = 64
+TESTS_ASKED = 200_000_000
+LEVELS = 8
+BITS = 8
 SECONDS_ASKED = 0.25
 MEMORY_ASKED = 96 * 2**20
 CHARACTERS = "ABCDEFGHIJKLMNOPQRSTUVWXYZ0123456789-"
@@ -89,6 +94,18 @@ def busy():
     rest = 900_000 - WAITING * len(rounds)
     made = text(flags, entries, "".join(rounds) + f"cycle {rest}.\n")
     return made, 900_000, WAITING * len(rounds)
+
+
+def tests():
+    """A condition of 1,000 tests that all hold, valued a million times, and how many minor cycles that takes.
+
+    A request's body has 64 choices with this condition; each minor cycle takes the request once.
+    """
+    flags = names("L", FLAGS)
+    guard = ",".join(f"{flag}xs" for flag in turns(flags, 0, 1_000))
+    body = ",".join([f"if {guard} then {flags[0]} xs end"] * CHOICES)
+    cycles = 1_000_000 // CHOICES
+    return text(flags, [("QA", body)], "panel0QA.cycle1." * cycles), cycles
 
 
 def entries():
@@ -178,6 +195,74 @@ def filled():
     return whole + " " * (2_000_000 - len(whole))
 
 
+def mixed(forms, flags, points):
+    """Tests or commands of these forms, each for a flag and points, round and round."""
+    named = zip(flags, itertools.cycle(points))
+    return itertools.cycle([form.format(flag=f, points=p) for f, p in named for form in forms])
+
+
+def deepest(tests):
+    """A condition whose groups lie in one another as deep as they may, of the next tests."""
+    made = next(tests)
+    for _ in range(LEVELS):
+        made = f"({made} or {next(tests)})"
+    return made
+
+
+def deepest_body(tests, commands):
+    """A body whose choices lie in one another as deep as they may, behind `then` and behind `else` by turns.
+
+    Each of its guards is as deep as it may be too.
+    """
+    made = next(commands)
+    for level in range(LEVELS):
+        branches = (made, next(commands)) if level % 2 else (next(commands), made)
+        made = f"if {deepest(tests)} then {branches[0]} else {branches[1]} end"
+    return made
+
+
+def nested():
+    """2,000,000 bytes without a fault, in rules that are as deep as rules may be.
+
+    62 modules have 124 points, and one the track that they lie over. There are a rule for each lie of points,
+    4,096 statements, and for each module eight bits that go out and what its reports do. What is left of the
+    size goes to the requests.
+    """
+    points, flags, requests = names("P", 124), names("L", FLAGS), names("Q", REQUESTS)
+    modules = range(1, 64)
+    tested = ["{flag} s", "{points} dn", "{flag} xs", "{points} cr"]
+    plain = mixed(tested, flags, points)
+    free = mixed([*tested, "{points} cnf", "{points} crf"], flags, points)
+    reported = mixed([*tested, "{points} cnf", "0 h", "7 l"], flags, points)
+    decisions = mixed(["{flag} s", "{points} cn"], flags, points)
+    reports = mixed(["{flag} xs", "{points} xdn"], flags, points)
+    files = {
+        "PTS": entered(f"{p} over TA" for p in points),
+        "TCS": entered(["TA"]),
+        "FLG": entered(flags),
+        "TFM": entered(wiring(points, [], ["TA"])),
+        "PRR": entered(f"{q} " for q in requests),  # to be filled below
+        "PFM": entered(f"{p} {lie} if {deepest(plain)}" for p in points for lie in ("cn", "cr")),
+        "FOP": entered(f"{next(decisions)} if {deepest(free)}" for _ in range(STATEMENTS)),
+        "OPT": entered(
+            f"{m} " + " ".join(f"bit {bit} if {deepest(free)}" for bit in range(BITS)) for m in modules
+        ),
+        "IPT": entered(f"{m} {deepest_body(reported, reports)}" for m in modules),
+    }
+    size = 2_000_000 - len(layout(files)) - len("file RUN\ncycle 1 .\n")
+    bodies = []
+    while True:
+        body = deepest_body(free, decisions)
+        size -= len(body) + 1
+        if size < 0:
+            break
+        bodies.append(body)
+    shares = [bodies[len(bodies) * i // REQUESTS : len(bodies) * (i + 1) // REQUESTS] for i in range(REQUESTS)]
+    files["PRR"] = entered(f"{q} {','.join(share)}" for q, share in zip(requests, shares))
+    whole = layout(files) + "file RUN\ncycle 1 .\n"
+    return whole + " " * (2_000_000 - len(whole))
+
+
 def unwired():
     """As many tracks as the input can declare, none of them wired, and how many faults these are."""
     count = (LIMIT - len(layout({}))) // len("TAAAA.")
@@ -254,6 +339,11 @@ def main():
         made, lines, puts = busy()
         figures = timed(program, room, "busy", made, (puts, lines))
         report(f"900,000 minor cycles, {puts:,} with a request of six items", lines, "cycles", *figures)
+        made, lines = tests()
+        seconds, most = timed(program, room, "tests", made, (lines, lines))
+        report("a condition of 1,000 tests, a million times", 1_000_000_000, "tests", seconds, most)
+        kept = "kept" if 1_000_000_000 / seconds >= TESTS_ASKED else "NOT KEPT"
+        print(f"  asked of it: at least {TESTS_ASKED // 1_000_000} million tests a second: {kept}")
         made = entries()
         figures = timed(program, room, "entries", made, (0, 1))
         report(f"a text of {len(made):,} bytes", len(made), "bytes", *figures)
@@ -263,6 +353,10 @@ def main():
         made = filled()
         figures = timed(program, room, "filled", made, {"later": 1}, 1, faults_by_code)
         report(f"a text of {len(made):,} bytes, its limits filled", len(made), "bytes", *figures)
+        report_asked(*figures)
+        made = nested()
+        figures = timed(program, room, "nested", made, {"later": 1}, 1, faults_by_code)
+        report(f"a text of {len(made):,} bytes, its rules nested", len(made), "bytes", *figures)
         report_asked(*figures)
         made, count = unwired()
         faults = {"N8": TRACKS, "N11": count - TRACKS}
