@@ -1,11 +1,9 @@
 -- One fact after another is shown.
-use Rattle.std.proofs.Common.{◌≡◌, ℕ, suc, ◌+◌, ◌<◌, ◌≤◌, Bool, true, false, List, [], ◌∷◌, ◌++◌, length, get_or, take, drop, refl, ap, sym, ◌∙◌, add-one, append_assoc, arith, length-take, zero-add}
+use Rattle.std.proofs.Common.{◌≡◌, ℕ, suc, zero, ◌+◌, ◌-◌, ◌<◌, ◌≤◌, Bool, true, false, List, [], ◌∷◌, ◌++◌, length, get_or, take, drop, refl, ap, sym, ◌∙◌, add-one, append_assoc, arith, length-take, zero-add}
 use Rattle.std.specs.List.{flat_map}
 use Rattle.std.proofs.Math.ListN.{set}
-use Rattle.std.specs.Bool.{beq}
-use Rattle.std.specs.Prelude.{not}
 use Rattle.std.proofs.Math.Seq.{drop-cons, set-append_seam, get_or-append_seam}
-use Rattle.std.proofs.lemmas.List.{drop_all, drop_more, get_or-map, take_more}
+use Rattle.std.proofs.lemmas.List.{append-nil, drop_all, drop_more, get_or-map, take_all, take_more}
 use Rattle.std.proofs.lemmas.List.FromFn.{get_or-range_with_len}
 use Rattle.std.proofs.lemmas.Option.{get_or_from_slice_get}
 use Rattle.ssi_identities.specs.declared.fact.Counts.{Counts}
@@ -16,6 +14,7 @@ use Rattle.ssi_identities.specs.Facts.{Fact, count_of, fact_count_of, fact_numbe
 use Rattle.ssi_identities.specs.States.{State}
 use Rattle.ssi_identities.proofs.FactOrder.{all_facts, in_order}
 use Rattle.ssi_identities.proofs.Numbering.{in_numbers}
+use Rattle.ssi_state.specs.Changes.{IsFirstChange, IsUnchanged}
 use Rattle.ssi_run.specs.Traces.{change_of, change_text, changes_of, fact_at, fact_text}
 
 -- ---- facts by number
@@ -58,24 +57,24 @@ seam_get : (xs : List Bool) (y : Bool) (ys : List Bool) (i : ℕ) → i ≡ leng
 seam_get xs y ys i e = rw e (get_or-append_seam xs y ys false)
 
 -- the facts up to one are as now, the others as before
-pub shown_next : (old new : List Bool) (i : ℕ) → i < length new → i < length old
+shown_next : (old new : List Bool) (i : ℕ) → i < length new → i < length old
     → set (take i new ++ drop i old) i (get_or new i false) ≡ take (i + 1) new ++ drop (i + 1) old
 shown_next old new i within more =
     rw (take_more new i false within, drop-cons old i false, append_assoc, add-one)
     (seam_set (take i new) (get_or old i false) (drop (suc i) old) i (get_or new i false) (taken new i within))
 
 -- a fact whose value is as before is shown already
-pub shown_already : (old new : List Bool) (i : ℕ) → i < length new → i < length old → get_or old i false ≡ get_or new i false
+shown_already : (old new : List Bool) (i : ℕ) → i < length new → i < length old → get_or old i false ≡ get_or new i false
     → take i new ++ drop i old ≡ take (i + 1) new ++ drop (i + 1) old
 shown_already old new i within more same =
     rw (take_more new i false within, drop-cons old i false, append_assoc, add-one, same) refl
 
-pub shown_at : (old new : List Bool) (i : ℕ) → i < length new → i < length old → get_or (take i new ++ drop i old) i false ≡ get_or old i false
+shown_at : (old new : List Bool) (i : ℕ) → i < length new → i < length old → get_or (take i new ++ drop i old) i false ≡ get_or old i false
 shown_at old new i within more =
     rw (drop-cons old i false) (seam_get (take i new) (get_or old i false) (drop (suc i) old) i (taken new i within))
 
 -- what is left to write, from one fact on, where the facts up to it are shown
-pub change_at : (plan : Plan) (old new shown : State) (i : ℕ) → i < fact_count_of (counts_of plan) → i < length old → i < length new → shown ≡ take i new ++ drop i old
+change_at : (plan : Plan) (old new shown : State) (i : ℕ) → i < fact_count_of (counts_of plan) → i < length old → i < length new → shown ≡ take i new ++ drop i old
     → flat_map (change_of plan old new) (drop i (facts_of (counts_of plan)))
     ≡ change_text plan (fact_at (counts_of plan) i) (get_or shown i false) (get_or new i false) ++ flat_map (change_of plan old new) (drop (i + 1) (facts_of (counts_of plan)))
 change_at plan old new shown i within b c noted =
@@ -83,29 +82,79 @@ change_at plan old new shown i within b c noted =
     rw same (changes_from plan old new i within)
 
 -- past the last fact nothing is left to write
-pub all_shown : (plan : Plan) (old new : State) (i : ℕ) → fact_count_of (counts_of plan) ≤ i → flat_map (change_of plan old new) (drop i (facts_of (counts_of plan))) ≡ []
+all_shown : (plan : Plan) (old new : State) (i : ℕ) → fact_count_of (counts_of plan) ≤ i → flat_map (change_of plan old new) (drop i (facts_of (counts_of plan))) ≡ []
 all_shown plan old new i past = ap (flat_map (change_of plan old new)) (drop_all i (facts_of (counts_of plan)) (omega (arith, past, all_facts (counts_of plan))))
 
 -- ---- one fact
 
 -- a fact whose value differs is written
-pub differing : (plan : Plan) (fact : Fact) (before after : Bool) → not (beq before after) ≡ true → change_text plan fact before after ≡ fact_text plan fact after
-differing plan fact true true e = absurd cc
+differing : (plan : Plan) (fact : Fact) (before after : Bool) → ¬ (before ≡ after) → change_text plan fact before after ≡ fact_text plan fact after
+differing plan fact true true e = absurd (e refl)
 differing plan fact true false e = refl
 differing plan fact false true e = refl
-differing plan fact false false e = absurd cc
+differing plan fact false false e = absurd (e refl)
 
 -- one whose value is the same isn't
-pub same_text : (plan : Plan) (fact : Fact) (before after : Bool) → before ≡ after → change_text plan fact before after ≡ []
+same_text : (plan : Plan) (fact : Fact) (before after : Bool) → before ≡ after → change_text plan fact before after ≡ []
 same_text plan fact before true e = rw e refl
 same_text plan fact before false e = rw e refl
 
--- values that are not different are the same
-pub alike : (before after : Bool) → not (beq before after) ≡ false → before ≡ after
-alike true true e = refl
-alike true false e = absurd cc
-alike false true e = absurd cc
-alike false false e = refl
+-- ---- the next change
+
+-- as much is left to write from one fact on as from another, up to which all are shown
+record Passed (plan : Plan) (old new shown : State) (i j : ℕ) : Type 0 where
+  pub left : flat_map (change_of plan old new) (drop i (facts_of (counts_of plan))) ≡ flat_map (change_of plan old new) (drop j (facts_of (counts_of plan)))
+  pub noted : shown ≡ take j new ++ drop j old
+
+module _ (plan : Plan) (old new shown : State) (facts : length new ≡ fact_count_of (counts_of plan)) (as_many : length old ≡ length new) where
+  -- unchanged facts are passed over
+  passed : (d i j : ℕ) → i + d ≡ j → j ≤ length new → shown ≡ take i new ++ drop i old → ((other : ℕ) → i ≤ other → other < j → IsUnchanged shown new other)
+      → Passed plan old new shown i j
+  passed zero i j e within noted same =
+      let at : i ≡ j = omega (arith, e) in
+      rw at (record { left = refl; noted = rw at at noted })
+  passed (suc d) i j e within noted same =
+      let in_new : i < length new = omega (arith, e, within) in
+      let in_old : i < length old = omega (arith, in_new, as_many) in
+      let is : get_or shown i false ≡ get_or new i false = same i (omega arith) (omega (arith, e)) in
+      let was : get_or shown i false ≡ get_or old i false = ap (λ s. get_or s i false) noted ∙ shown_at old new i in_new in_old in
+      let none = same_text plan (fact_at (counts_of plan) i) _ _ is in
+      let rest = passed d (i + 1) j (omega (arith, e)) within (noted ∙ shown_already old new i in_new in_old (sym was ∙ is)) (λ other past. same other (omega (arith, past))) in
+      record { left = rw none at (change_at plan old new shown i (omega (arith, in_new, facts)) in_old in_new noted) ∙ rest.left; noted = rest.noted }
+
+  module _ (i : ℕ) (within : i ≤ length new) (noted : shown ≡ take i new ++ drop i old) where
+    module _ (fact : ℕ) (value : Bool) (next : IsFirstChange shown new i fact value) where
+      up_to_it : Passed plan old new shown i fact
+      up_to_it = passed (fact - i) i fact (omega (arith, next.reached)) (omega (arith, next.within)) noted next.none_between
+
+      listed : fact < fact_count_of (counts_of plan)
+      listed = omega (arith, next.within, facts)
+
+      in_old : fact < length old
+      in_old = omega (arith, next.within, as_many)
+
+      -- the next change is the first text that is left
+      pub next_text : flat_map (change_of plan old new) (drop i (facts_of (counts_of plan)))
+          ≡ fact_text plan (fact_at (counts_of plan) fact) value ++ flat_map (change_of plan old new) (drop (fact + 1) (facts_of (counts_of plan)))
+      next_text =
+          let text = differing plan (fact_at (counts_of plan) fact) _ _ next.changed in
+          up_to_it.left ∙ rw (text, ← next.value_is) at (change_at plan old new shown fact listed in_old next.within up_to_it.noted)
+
+      -- once it is noted, the facts up to it are shown
+      pub next_noted : set shown fact value ≡ take (fact + 1) new ++ drop (fact + 1) old
+      next_noted = rw (next.value_is, up_to_it.noted) (shown_next old new fact next.within in_old)
+
+    module _ (none : (fact : ℕ) → i ≤ fact → IsUnchanged shown new fact) where
+      to_the_end : Passed plan old new shown i (length new)
+      to_the_end = passed (length new - i) i (length new) (omega (arith, within)) (omega arith) noted (λ other past below. none other past)
+
+      -- where there is none, nothing is left to write
+      pub no_text : flat_map (change_of plan old new) (drop i (facts_of (counts_of plan))) ≡ []
+      no_text = to_the_end.left ∙ all_shown plan old new (length new) (omega (arith, facts))
+
+      -- and all facts are shown
+      pub all_noted : shown ≡ new
+      all_noted = to_the_end.noted ∙ rw (take_all (length new) new (omega arith), drop_all (length new) old (omega (arith, as_many)), append-nil) refl
 
 -- ---- nothing changed
 

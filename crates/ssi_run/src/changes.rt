@@ -63,12 +63,11 @@ pub fn write_changes<K: Sink>(
     ensures writes { Writes (K.written sink.old) (K.written sink.new) (K.faults sink.old) (K.faults sink.new)
         (changes_of image.now shown.old state.now) result }
 {
-    for fact in 0..state.len() {
-        let value = state.get(fact);
-        if shown.get(fact) != value {
-            shown.set(fact, value);
-            write_numbered(sink, image, fact, value)?;
-        }
+    let mut from = 0;
+    while let Some((fact, value)) = state.next_change(shown, from) {
+        shown.set(fact, value);
+        write_numbered(sink, image, fact, value)?;
+        from = fact + 1;
     }
     Ok(())
 }
