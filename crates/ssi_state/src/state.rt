@@ -1,14 +1,20 @@
 //! States.
 
-ghost use Rattle.std.specs.Prelude.{◌≡◌, ◌<◌, length, slice_set, IfOk};
+ghost use Rattle.std.specs.Prelude.{◌≡◌, ℕ, ◌<◌, ◌≤◌, length, take, slice_set, IfOk};
 ghost use Rattle.ssi_identities.specs.Facts.{IsWithinLimits};
 ghost use Rattle.ssi_identities.specs.States.{start_of, truth_of};
-ghost use Rattle.ssi_state.specs.Changes.{IsNextChange};
+ghost use Rattle.ssi_state.specs.Changes.{IsNextChange, IsUnchanged};
 
 use ssi_base::OutOfMemory;
 use ssi_identities::{Counts, start};
 use std::alloc::Global;
 use std::marker::Model;
+
+/// How many facts are compared at once where many are equal.
+const LONG: usize = 64;
+
+/// How many facts are compared at once near a change.
+const SHORT: usize = 8;
 
 /// A truth value for each fact, by the fact's number.
 #[derive(Drop)]
@@ -76,7 +82,8 @@ impl State {
         requires { length before.now ≡ length self.now }
         ensures { IsNextChange before.now self.now from result }
     {
-        'facts: for fact in from..self.len() {
+        let near = self.past_equal_blocks(before, from);
+        'facts: for fact in near..self.len() {
             let value = self.get(fact);
             if value != before.get(fact) {
                 return Some((fact, value));
@@ -84,4 +91,39 @@ impl State {
         }
         None
     }
+
+    /// A fact at or past `from`, with none between them that differs from before. Long blocks pass what is equal, and
+    /// short ones leave few facts to look at one by one.
+    fn past_equal_blocks(&self, before: &State, from: u16) -> u16
+        requires { length before.now ≡ length self.now }
+        ensures reached { from ≤ result }
+        ensures unchanged { (fact : ℕ) → from ≤ fact → fact < result → IsUnchanged before.now self.now fact }
+    {
+        let first = usize::from(from);
+        if self.values.len().saturating_sub(first) < SHORT {
+            return from;
+        }
+        let (now, before) = (&self.values[first..], &before.values[first..]);
+        let far = equal_blocks::<LONG>(now, before);
+        let near = far + equal_blocks::<SHORT>(&now[far..], &before[far..]);
+        (first + near) as u16
+    }
+}
+
+/// How many items stand in the equal blocks of `N` items that both slices begin with.
+#[inline]
+fn equal_blocks<const N: usize>(now: &[bool], before: &[bool]) -> usize
+    requires some { 0 < N }
+    requires few { N ≤ 64 }
+    requires same { length before.now ≡ length now.now }
+    ensures within { result ≤ length now.now }
+    ensures equal { take result before.now ≡ take result now.now }
+{
+    let (blocks, _) = now.as_chunks::<N>();
+    let (others, _) = before.as_chunks::<N>();
+    let mut equal = 0;
+    while equal < blocks.len() && blocks[equal] == others[equal] {
+        equal += 1;
+    }
+    equal * N
 }

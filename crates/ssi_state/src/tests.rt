@@ -1,3 +1,5 @@
+ghost use Rattle.std.specs.Prelude.{◌≤◌};
+
 use super::*;
 use ssi_identities::Counts;
 use std::alloc::Global;
@@ -76,23 +78,72 @@ const CHANGES: [Row; 11] = [
     ),
 ];
 
-/// The state with these values of four flags.
-fn flags(alloc: Global, values: [bool; 4]) -> Result<State, Fail> {
+/// How many flags the longer states have: blocks of 64, blocks of 8 behind them, and a rest that fills neither.
+const LONG_FLAGS: u16 = 150;
+
+/// The flags that changed, a fact to look from on, and the next that changed from there.
+type LongRow = (&'static [u16], u16, Option<u16>);
+
+const LONG_CHANGES: [LongRow; 22] = [
+    (&[], 0, None),
+    (&[], 37, None),
+    (&[], 150, None),
+    (&[0], 0, Some(0)),
+    (&[0], 1, None),
+    (&[7], 0, Some(7)),
+    (&[8], 0, Some(8)),
+    (&[63], 0, Some(63)),
+    (&[63], 64, None),
+    (&[64], 0, Some(64)),
+    (&[127], 0, Some(127)),
+    (&[128], 0, Some(128)),
+    (&[135], 0, Some(135)),
+    (&[143], 0, Some(143)),
+    (&[144], 0, Some(144)),
+    (&[149], 0, Some(149)),
+    (&[149], 149, Some(149)),
+    (&[20, 100], 21, Some(100)),
+    (&[84, 85], 21, Some(84)),
+    (&[84, 85], 85, Some(85)),
+    (&[28, 92], 29, Some(92)),
+    (&[0, 63, 149], 64, Some(149)),
+];
+
+/// A start of so many flags.
+fn start_of_flags(alloc: Global, flags: u16) -> Result<State, Fail>
+    requires { flags ≤ 512 }
+{
     let counts = Counts {
         points: 0,
         signals: 0,
         tracks: 0,
         routes: 0,
         subs: 0,
-        flags: 4,
+        flags,
         requests: 0,
     };
-    let mut state = State::start(alloc, &counts)?;
+    Ok(State::start(alloc, &counts)?)
+}
+
+/// The state with these values of four flags.
+fn flags(alloc: Global, values: [bool; 4]) -> Result<State, Fail> {
+    let mut state = start_of_flags(alloc, 4)?;
     let mut fact = 0;
     for value in values {
         if fact < state.len() {
             state.set(fact, value);
             fact += 1;
+        }
+    }
+    Ok(state)
+}
+
+/// The start of the longer state, with these flags changed.
+fn changed_flags(alloc: Global, changed: &[u16]) -> Result<State, Fail> {
+    let mut state = start_of_flags(alloc, LONG_FLAGS)?;
+    for fact in changed {
+        if *fact < state.len() {
+            state.set(*fact, true);
         }
     }
     Ok(state)
@@ -107,6 +158,19 @@ fn the_next_change_is_the_first_from_there_on(rt: HostRuntime) -> Result<(), Fai
         assert_eq!(rt; new.len(), old.len());
         let told = new.next_change(&old, from);
         assert_eq!(rt; told, want, "{before:?} {after:?} {from}");
+    }
+    Ok(())
+}
+
+#[test]
+fn the_next_change_is_found_behind_blocks(rt: HostRuntime) -> Result<(), Fail> {
+    let old = start_of_flags(rt.alloc(), LONG_FLAGS)?;
+    for (changed, from, want) in LONG_CHANGES {
+        let new = changed_flags(rt.alloc(), changed)?;
+        assert_eq!(rt; new.len(), old.len());
+        let told = new.next_change(&old, from);
+        let change = want.map(|fact| (fact, true));
+        assert_eq!(rt; told, change, "{changed:?} {from}");
     }
     Ok(())
 }
