@@ -84,7 +84,7 @@ pub fn write_commands(code: &mut Vec<u8>, commands: &[Cmd]) -> Result<(), OutOfM
 fn write_command(code: &mut Vec<u8>, command: &Cmd) -> Result<(), OutOfMemory>
     ensures { OnOk result (code.new.items ≡ code.old.items ++ code_of_command command.now) }
 {
-    code.push(BodyOp::Set(command.value).byte())?;
-    code.extend_from_slice(&command.fact.to_be_bytes())?;
+    let [high, low] = command.fact.to_be_bytes();
+    code.extend_from_slice(&[BodyOp::Set(command.value).byte(), high, low])?;
     Ok(())
 }

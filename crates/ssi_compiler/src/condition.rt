@@ -40,16 +40,16 @@ fn write_item(code: &mut Vec<u8>, item: &CondItem) -> Result<(), OutOfMemory>
 {
     match item {
         CondItem::Lit { fact, wanted } => {
-            code.push(CondOp::Fact(*wanted).byte())?;
-            code.extend_from_slice(&fact.to_be_bytes())?;
+            let [high, low] = fact.to_be_bytes();
+            code.extend_from_slice(&[CondOp::Fact(*wanted).byte(), high, low])?;
         }
         CondItem::Bit { bit, wanted } => {
             code.push(CondOp::Bit(*wanted).byte())?;
             code.push(*bit)?;
         }
         CondItem::Free { points, reverse } => {
-            code.push(CondOp::Free(*reverse).byte())?;
-            code.extend_from_slice(&points.to_be_bytes())?;
+            let [high, low] = points.to_be_bytes();
+            code.extend_from_slice(&[CondOp::Free(*reverse).byte(), high, low])?;
         }
         CondItem::Any(alternatives) => {
             code.push(CondOp::Group.byte())?;

@@ -46,11 +46,13 @@ impl Coded for Vec<Cmd> {
     }
 }
 
-/// Pieces of code, one after another.
+/// Pieces of code, one after another, each with just the room that it needs.
 #[derive(Drop)]
 pub struct Pieces {
     alloc: Global,
     all: Vec<Vec<u8>>,
+    /// Where a piece is written before its length is known.
+    written: Vec<u8>,
 }
 
 impl Model for Pieces {
@@ -69,6 +71,7 @@ impl Pieces {
         Pieces {
             alloc,
             all: Vec::new(alloc),
+            written: Vec::new(alloc),
         }
     }
 
@@ -76,7 +79,8 @@ impl Pieces {
     pub fn into_vec(self) -> Vec<Vec<u8>>
         ensures { map (λ piece. piece.items) result.items ≡ self }
     {
-        self.all
+        let Pieces { all, .. } = self;
+        all
     }
 
     /// Adds the code of a condition or a body.
@@ -84,8 +88,9 @@ impl Pieces {
         requires { IsShort (C.code_of coded.now) }
         ensures { OnOk result (self.new ≡ self.old ++ C.code_of coded.now ∷ []) }
     {
-        let mut piece = Vec::new(self.alloc);
-        coded.write(&mut piece)?;
+        self.written.clear();
+        coded.write(&mut self.written)?;
+        let piece = Vec::from_slice(self.alloc, self.written.as_slice())?;
         self.all.push(piece)?;
         Ok(())
     }
