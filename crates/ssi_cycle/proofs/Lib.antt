@@ -1,0 +1,10 @@
+pub mod Acts
+pub mod Lengths
+pub mod Modules
+pub mod Restricting
+pub mod Bytes
+pub mod Slots
+pub mod Serving
+pub mod Changing
+pub mod Examples
+pub mod Sharing

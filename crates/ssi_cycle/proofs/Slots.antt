@@ -1,0 +1,61 @@
+-- The statements of a slot, from one on.
+use Rattle.std.proofs.Common.{◌≡◌, ℕ, suc, ◌+◌, ◌-◌, ◌*◌, ◌<◌, ◌≤◌, true, List, [], ◌∷◌, length, take, drop, get_or, min, Some, is_some, refl, ap, sym, ◌∙◌, arith}
+use Rattle.std.proofs.lemmas.List.{drop_more, take_min, length-drop}
+use Rattle.std.proofs.lemmas.Option.{slice_get-get_or}
+use Rattle.ssi_identities.specs.declared.rule.Body.{Body}
+use Rattle.ssi_identities.specs.DataSets.{Plan, StmtPlan}
+use Rattle.ssi_identities.specs.States.{State}
+use Rattle.ssi_identities.specs.Steps.{effect_of}
+use Rattle.ssi_identities.specs.Values.{cond_of}
+use Rattle.ssi_image.specs.declared.places.BodyAt.TheVariants.{Statement}
+use Rattle.ssi_image.specs.Places.{body_at, body_of_statement}
+use Rattle.ssi_cycle.proofs.Acts.{effect_length}
+use Rattle.ssi_cycle.specs.Statements.{after_statements, share_of, statements_in}
+
+-- a statement without commands
+no_statement : StmtPlan
+no_statement = record { commands = []; guard = cond_of [] }
+
+-- the statements from one on, up to another
+abbrev pub statements_between : List StmtPlan → ℕ → ℕ → List StmtPlan
+statements_between statements from end = take (end - from) (drop from statements)
+
+between_next : (statements : List StmtPlan) (from end : ℕ) → from < end → end ≤ length statements
+    → statements_between statements from end ≡ get_or statements from no_statement ∷ statements_between statements (from + 1) end
+between_next statements from end within reach =
+    let one : end - from ≡ suc (end - (from + 1)) = omega arith in
+    rw (one, drop_more statements from no_statement (omega arith)) refl
+
+-- there is a statement
+pub statement_there : (plan : Plan) (from : ℕ) → from < length plan.statements → is_some (body_at plan (Statement from)) ≡ true
+statement_there plan from within = rw (slice_get-get_or plan.statements from no_statement within) refl
+
+-- one statement acts, and those after it are left
+pub statement_next : (plan : Plan) (from end : ℕ) (old new : State) → from < end → end ≤ length plan.statements
+    → ((body : Body) → body_at plan (Statement from) ≡ Some body → new ≡ effect_of plan body old 0)
+    → after_statements plan (statements_between plan.statements from end) old ≡ after_statements plan (statements_between plan.statements (from + 1) end) new
+statement_next plan from end old new within reach acts =
+    let row = get_or plan.statements from no_statement in
+    let there = slice_get-get_or plan.statements from no_statement (omega arith) in
+    let done = acts (body_of_statement row) (rw there refl) in
+    ap (λ rows. after_statements plan rows old) (between_next plan.statements from end within reach) ∙ ap (after_statements plan (statements_between plan.statements (from + 1) end)) (sym done)
+
+-- those of a slot, as far as there are so many
+pub slot_statements : (statements : List StmtPlan) (first share end slot : ℕ) → share ≡ share_of (length statements) → first ≡ slot * share → end ≡ min (length statements) (first + share)
+    → statements_in statements slot ≡ statements_between statements first end
+slot_statements statements first share end slot share_is first_is end_is =
+    let room : end - first ≡ min share (length (drop first statements)) = rw (length-drop, end_is) (omega arith) in
+    rw (← share_is, ← first_is, room) (sym (take_min share (drop first statements)))
+
+-- a statement leaves as many facts as there were
+pub statement_keeps : (plan : Plan) (from : ℕ) (old new : State) → from < length plan.statements → ((body : Body) → body_at plan (Statement from) ≡ Some body → new ≡ effect_of plan body old 0)
+    → length new ≡ length old
+statement_keeps plan from old new within acts =
+    let body = body_of_statement (get_or plan.statements from no_statement) in
+    ap length (acts body (rw (slice_get-get_or plan.statements from no_statement within) refl)) ∙ effect_length plan body old 0
+
+-- no statement is left
+pub none_between : (plan : Plan) (from end : ℕ) (state : State) → end ≤ from → after_statements plan (statements_between plan.statements from end) state ≡ state
+none_between plan from end state past =
+    let none : end - from ≡ 0 = omega arith in
+    rw none refl

@@ -1,0 +1,10 @@
+pub mod Restrictions
+pub mod Exchanges
+pub mod Outputs
+pub mod Statements
+pub mod Requests
+pub mod Worlds
+pub mod Moments
+pub mod Cores
+pub mod Held
+pub mod Worked

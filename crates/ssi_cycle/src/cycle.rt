@@ -1,0 +1,52 @@
+//! The parts of a minor cycle, one after another.
+
+ghost use Rattle.std.specs.Prelude.{◌≡◌, ◌<◌, All, false, drop, length};
+ghost use Rattle.ssi_identities.specs.DataSets.{counts_of};
+ghost use Rattle.ssi_identities.specs.Facts.{fact_count_of};
+ghost use Rattle.ssi_identities.specs.Wells.{IsWell};
+ghost use Rattle.ssi_cycle.specs.Requests.{taken_of};
+ghost use Rattle.ssi_cycle.specs.Worlds.{minor_cycle_of};
+
+use crate::exchange::take_arrival;
+use crate::requests::{MOST_WAITING, serve};
+use crate::statements::run_statements;
+use arrayvec::ArrayVec;
+use ssi_image::Image;
+use ssi_state::State;
+
+/// Takes over a state where the last minor cycle may have changed it.
+pub fn note(noted: &mut State, state: &State, has_acted: bool)
+    requires facts { length noted.old ≡ length state.now }
+    requires idle { has_acted ≡ false → noted.old ≡ state.now }
+    ensures { noted.new ≡ state.now }
+{
+    if has_acted {
+        noted.copy_from(state);
+    }
+}
+
+/// Takes in what has arrived in a slot, lets the slot's statements act, and serves the oldest request that waits. Answers whether anything may have acted, and
+/// the request that was taken.
+pub fn act(
+    image: &Image,
+    slot: u8,
+    arrived: Option<[u8; 4]>,
+    waiting: &mut ArrayVec<u16, MOST_WAITING>,
+    state: &mut State,
+) -> (bool, Option<u16>)
+    requires well { IsWell image.now }
+    requires slot { slot < 64 }
+    requires there { All (λ request. request < length image.now.requests) waiting.old.items }
+    requires facts { length state.old ≡ fact_count_of (counts_of image.now) }
+    ensures effect { state.new
+        ≡ (minor_cycle_of image.now (record { state = state.old; waiting = waiting.old.items; slot = slot }) arrived).state }
+    ensures facts { length state.new ≡ length state.old }
+    ensures rest { waiting.new.items ≡ drop 1 waiting.old.items }
+    ensures taken { result.1 ≡ taken_of waiting.old.items }
+    ensures idle { result.0 ≡ false → state.new ≡ state.old }
+{
+    let reported = take_arrival(image, slot, arrived, state);
+    let stated = run_statements(image, slot, state);
+    let request = serve(image, waiting, state);
+    (reported || stated || request.is_some(), request)
+}

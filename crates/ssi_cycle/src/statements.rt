@@ -1,0 +1,38 @@
+//! The statements of a slot.
+
+ghost use Rattle.std.specs.Prelude.{◌≡◌, ◌<◌, ◌≤◌, false, length};
+ghost use Rattle.ssi_identities.specs.DataSets.{counts_of};
+ghost use Rattle.ssi_identities.specs.Facts.{fact_count_of};
+ghost use Rattle.ssi_identities.specs.Wells.{IsWell};
+ghost use Rattle.ssi_cycle.specs.Statements.{after_statements, share_of as share_of_count, statements_in};
+
+use crate::NO_REPORT;
+use ssi_eval::run_body;
+use ssi_image::{BodyAt, Image};
+use ssi_state::State;
+
+/// How many of so many statements each slot has: the least number of which 64 slots have enough.
+fn share_of(count: u16) -> u16
+    requires { count ≤ 4096 }
+    ensures { result ≡ share_of_count count }
+{
+    (count + 63) / 64
+}
+
+/// Lets the statements of a slot act, in written order. Answers whether it has any: where it hasn't, nothing changes.
+pub fn run_statements(image: &Image, slot: u8, state: &mut State) -> bool
+    requires well { IsWell image.now }
+    requires slot { slot < 64 }
+    requires facts { length state.old ≡ fact_count_of (counts_of image.now) }
+    ensures effect { state.new ≡ after_statements image.now (statements_in image.now.statements slot) state.old }
+    ensures none { result ≡ false → state.new ≡ state.old }
+{
+    let count = image.statement_count();
+    let share = share_of(count);
+    let first = u16::from(slot) * share;
+    let end = count.min(first + share);
+    for number in first..end {
+        run_body(image, BodyAt::Statement(number), state, NO_REPORT);
+    }
+    first < end
+}
