@@ -365,4 +365,5 @@ def main():
         report_asked(*figures)
 
 
-main()
+if __name__ == "__main__":
+    main()
