@@ -8,6 +8,6 @@ pub mod OneAnswer
 pub mod SomeAnswer
 pub mod Replying
 pub mod Promises
-pub mod Taking
+pub mod Stepping
 pub mod FaultTexts
 pub mod Runs

@@ -2,11 +2,11 @@
 use Rattle.std.proofs.Common.{◌≡◌, ℕ, suc, ◌+◌, ◌-◌, ◌<◌, List, ◌++◌, length, drop, get_or, refl, add-one, arith}
 use Rattle.std.proofs.Math.Seq.{drop-cons}
 use Rattle.ssi_identities.specs.DataSets.{Plan}
-use Rattle.ssi_run.specs.Worlds.{World, minor_cycle_of}
-use Rattle.ssi_run.specs.Traces.{Session, line_of, lines_of, after_cycles, after_step, step_text, steps_text, cycles_of, cycles_in}
+use Rattle.ssi_cycle.specs.Worlds.{World}
+use Rattle.ssi_run.specs.Traces.{Session, after_minor, line_of, lines_of, after_cycles, after_step, step_text, steps_text, cycles_of, cycles_in}
 use Rattle.ssi_run.specs.declared.script.ScriptStep.{ScriptStep}
 
-module _ (plan : Plan) (count turn : ℕ) (world next : World) (number later : ℕ) (within : turn < count) (made : next ≡ minor_cycle_of plan world) (one : later ≡ number + 1) where
+module _ (plan : Plan) (count turn : ℕ) (world next : World) (number later : ℕ) (within : turn < count) (made : next ≡ after_minor plan world) (one : later ≡ number + 1) where
   one_more : count - turn ≡ suc (count - (turn + 1))
   one_more = omega arith
 

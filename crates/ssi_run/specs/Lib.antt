@@ -2,7 +2,6 @@ pub mod Statuses
 pub mod Answers
 pub mod Outcomes
 pub mod Words
-pub mod Worlds
 pub mod Traces
 pub mod FaultLines
 pub mod Refusals

@@ -1,5 +1,5 @@
 -- The script: which tokens spell which steps, and which requests they name.
-use Rattle.std.specs.Prelude.{◌≡◌, ℕ, ◌≤◌, codes, map, List, [], ◌∷◌, Option, Some, None, option_map}
+use Rattle.std.specs.Prelude.{◌≡◌, ℕ, ◌<◌, ◌≤◌, codes, map, List, [], ◌∷◌, Option, Some, None, option_map}
 use Rattle.ssi_lexer.specs.declared.token.TextEnd.{TextEnd}
 use Rattle.ssi_lexer.specs.declared.token.TextEnd.TheVariants.{Finished, Faulty}
 use Rattle.ssi_lexer.specs.declared.token.TokenKind.TheVariants.{Name}
@@ -33,6 +33,11 @@ pub data SpellsStep : StepTree → List Lexeme → Type 0 where
 abbrev pub step_of : List ℕ → List (List ℕ) → StepTree → Option ScriptStep
 step_of text requests (tree.Panel panel request) = option_map (λ found. step.Panel panel found) (number_of requests (characters text request))
 step_of text requests (tree.Cycle count) = Some (step.Cycle count)
+
+-- the step can be done: the request that it puts is one of so many, and panel 0 is the panel
+abbrev pub IsStepOf : ℕ → ScriptStep → Type 0
+IsStepOf requests (step.Panel panel request) = (panel ≡ 0) × (request < requests)
+IsStepOf requests (step.Cycle count) = Unit {0}
 
 -- the text ends with no fault
 abbrev pub IsFinished : TextEnd → Type 0

@@ -1,5 +1,5 @@
 -- The trace: what a script writes, minor cycle by minor cycle.
-use Rattle.std.specs.Prelude.{ℕ, zero, suc, ◌+◌, Bool, true, false, if◌then◌else◌, List, [], ◌∷◌, ◌++◌, codes, decimal, slice_index_or, Option, Some, None}
+use Rattle.std.specs.Prelude.{ℕ, zero, suc, ◌+◌, Bool, true, false, if◌then◌else◌, List, [], ◌∷◌, ◌++◌, codes, decimal, slice_index_or, Option, Some, None, option_map}
 use Rattle.std.specs.List.{flat_map}
 use Rattle.ssi_identities.specs.declared.fact.Counts.{Counts}
 use Rattle.ssi_identities.specs.declared.fact.FactKind.TheVariants.{Reverse}
@@ -10,7 +10,9 @@ use Rattle.ssi_identities.specs.States.{State, truth_of}
 use Rattle.ssi_identities.specs.Words.{word_of}
 use Rattle.ssi_run.specs.declared.script.ScriptStep.{ScriptStep}
 use Rattle.ssi_run.specs.declared.script.ScriptStep.TheVariants.{Panel, Cycle}
-use Rattle.ssi_run.specs.Worlds.{World, start_of, is_full, with_request, taken_of, minor_cycle_of}
+use Rattle.ssi_cycle.specs.Requests.{is_full, taken_of}
+use Rattle.ssi_cycle.specs.Worlds.{World, start_of, after_event}
+use Rattle.ssi_cycle.specs.Worlds.Event.{Put, Minor}
 
 -- a session of an interlocking: its world, and how many minor cycles were made
 pub record Session : Type 0 where
@@ -41,19 +43,27 @@ change_of plan before after fact =
 abbrev pub changes_of : Plan → State → State → List ℕ
 changes_of plan before after = flat_map (change_of plan before after) (facts_of (counts_of plan))
 
+-- the world after a minor cycle in which nothing arrives: a layout that is run today has no module
+abbrev pub after_minor : Plan → World → World
+after_minor plan world = after_event plan world (Minor None)
+
+-- the panel and the number of the request that is taken: there is panel 0
+abbrev pub served_of : World → Option (ℕ × ℕ)
+served_of world = option_map (λ request. (0, request)) (taken_of world.waiting)
+
 -- the panel and the name of the request that was taken
-abbrev pub taken_text : Plan → Option ℕ → List ℕ
+abbrev pub taken_text : Plan → Option (ℕ × ℕ) → List ℕ
 taken_text plan None = codes "-"
-taken_text plan (Some request) = codes "0:" ++ name_of plan Request request
+taken_text plan (Some taken) = decimal taken.0 ++ codes ":" ++ name_of plan Request taken.1
 
 -- the line of a minor cycle: its number, no telegram out or in, the request taken, and the changes
 abbrev pub line_of : Plan → Session → List ℕ
 line_of plan session =
-    decimal session.number ++ codes " - - " ++ taken_text plan (taken_of session.world.waiting)
-    ++ changes_of plan session.world.state (minor_cycle_of plan session.world).state ++ codes "\n"
+    decimal session.number ++ codes " - - " ++ taken_text plan (served_of session.world)
+    ++ changes_of plan session.world.state (after_minor plan session.world).state ++ codes "\n"
 
 abbrev pub after_cycle : Plan → Session → Session
-after_cycle plan session = record { world = minor_cycle_of plan session.world; number = session.number + 1 }
+after_cycle plan session = record { world = after_minor plan session.world; number = session.number + 1 }
 
 -- minor cycles, one after another
 abbrev pub after_cycles : Plan → ℕ → Session → Session
@@ -66,12 +76,12 @@ lines_of plan (suc count) session = line_of plan session ++ lines_of plan count 
 
 -- the session after a step
 abbrev pub after_step : Plan → ScriptStep → Session → Session
-after_step plan (Panel panel request) session = record { world = with_request session.world request; number = session.number }
+after_step plan (Panel panel request) session = record { world = after_event plan session.world (Put request); number = session.number }
 after_step plan (Cycle count) session = after_cycles plan count session
 
 -- a put that finds 64 waiting gives a line
 abbrev pub put_text : Plan → World → ℕ → List ℕ
-put_text plan world request = if is_full world then codes "full 0 " ++ name_of plan Request request ++ codes "\n" else []
+put_text plan world request = if is_full world.waiting then codes "full 0 " ++ name_of plan Request request ++ codes "\n" else []
 
 -- what a step writes
 abbrev pub step_text : Plan → ScriptStep → Session → List ℕ

@@ -1,17 +1,17 @@
 //! The changed facts of a minor cycle.
 
-ghost use Rattle.std.specs.Prelude.{◌≡◌, ◌<◌, true, false, length, codes, [], None, OnOk};
+ghost use Rattle.std.specs.Prelude.{◌≡◌, ◌<◌, true, false, codes, []};
 ghost use Rattle.ssi_base.specs.Streams.{Writes};
 ghost use Rattle.ssi_identities.specs.DataSets.{counts_of};
-ghost use Rattle.ssi_identities.specs.Facts.{IsWithinLimits, fact_count_of};
+ghost use Rattle.ssi_identities.specs.Facts.{fact_count_of};
 ghost use Rattle.ssi_run.specs.Traces.{changes_of, fact_at, fact_text};
 ghost use Rattle.ssi_run.specs.WorkedChanges.{all_are, mixed, one_of_each};
 
 use crate::pieces::write_two;
 use ssi_base::{Failed, Sink};
+use ssi_cycle::Interlocking;
 use ssi_identities::{FactKind, fact_of};
 use ssi_image::Image;
-use ssi_state::State;
 
 /// Writes a fact with its value.
 #[tactic(auto, using(ssi_base::proofs::Writing::joins))]
@@ -37,8 +37,7 @@ fn write_numbered<K: Sink>(
     fact: u16,
     value: bool,
 ) -> Result<(), Failed>
-    requires limits { IsWithinLimits (counts_of image.now) }
-    requires within { fact < fact_count_of (counts_of image.now) }
+    requires { fact < fact_count_of (counts_of image.now) }
     ensures { Writes (K.written sink.old) (K.written sink.new) (K.faults sink.old) (K.faults sink.new)
         (fact_text image.now (fact_at (counts_of image.now) fact) value) result }
 {
@@ -46,52 +45,17 @@ fn write_numbered<K: Sink>(
     write_fact(sink, image, kind, index, value)
 }
 
-/// Writes each fact whose value differs from the one shown last, and notes it as shown.
-/// After an error some of them are noted.
-// Within a longer function its loop would keep its numbers in memory.
-#[inline(never)]
-pub fn write_changes<K: Sink>(
-    sink: &mut K,
-    image: &Image,
-    shown: &mut State,
-    state: &State,
-) -> Result<(), Failed>
-    requires limits { IsWithinLimits (counts_of image.now) }
-    requires facts { length state.now ≡ fact_count_of (counts_of image.now) }
-    requires shown { length shown.old ≡ length state.now }
-    ensures noted { OnOk result (shown.new ≡ state.now) }
-    ensures writes { Writes (K.written sink.old) (K.written sink.new) (K.faults sink.old) (K.faults sink.new)
-        (changes_of image.now shown.old state.now) result }
+/// Writes each fact whose value differs from the one before the last minor cycle.
+pub fn write_changes<K: Sink>(sink: &mut K, core: &Interlocking) -> Result<(), Failed>
+    ensures { Writes (K.written sink.old) (K.written sink.new) (K.faults sink.old) (K.faults sink.new)
+        (changes_of core.now.plan core.now.before core.now.world.state) result }
 {
     let mut from = 0;
-    while let Some((fact, value)) = state.next_change(shown, from) {
-        shown.set(fact, value);
-        write_numbered(sink, image, fact, value)?;
+    while let Some((fact, value)) = core.next_change(from) {
+        write_numbered(sink, core.image(), fact, value)?;
         from = fact + 1;
     }
     Ok(())
-}
-
-/// Writes the changes of a minor cycle in which this request was taken. Where none was, nothing changed.
-pub fn write_changes_by<K: Sink>(
-    sink: &mut K,
-    image: &Image,
-    taken: Option<u16>,
-    shown: &mut State,
-    state: &State,
-) -> Result<(), Failed>
-    requires limits { IsWithinLimits (counts_of image.now) }
-    requires facts { length state.now ≡ fact_count_of (counts_of image.now) }
-    requires shown { length shown.old ≡ length state.now }
-    requires idle { taken ≡ None → state.now ≡ shown.old }
-    ensures noted { OnOk result (shown.new ≡ state.now) }
-    ensures writes { Writes (K.written sink.old) (K.written sink.new) (K.faults sink.old) (K.faults sink.new)
-        (changes_of image.now shown.old state.now) result }
-{
-    match taken {
-        Some(_) => write_changes(sink, image, shown, state),
-        None => Ok(()),
-    }
 }
 
 /// The changes of one fact of each kind: to true, to false, and of some of them.

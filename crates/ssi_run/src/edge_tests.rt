@@ -180,9 +180,9 @@ const STORED_INPUT: &[u8] =
     b"file PTS\nfile SIG\nfile TCS\nfile RTE\nfile SUB\nfile FLG\nL1 .\nL2 .\nfile TFM\nfile PRR\nQ1 if L1 s then L2 s end .\nQ2 L1 s .\nfile PFM\nfile FOP\nfile OPT\nfile IPT\nfile RUN\npanel 0 Q1 . cycle 1 . panel 0 Q2 . panel 0 Q1 . cycle 2 .\n";
 
 /// The pieces in which the output is written.
-const STORED_OUTPUT: [&str; 23] = [
-    "0", " - - ", "0:", "Q1", "\n", "1", " - - ", "0:", "Q2", " ", "L1", ":", "s", "\n", "2",
-    " - - ", "0:", "Q1", " ", "L2", ":", "s", "\n",
+const STORED_OUTPUT: [&str; 26] = [
+    "0", " - - ", "0", ":", "Q1", "\n", "1", " - - ", "0", ":", "Q2", " ", "L1", ":", "s", "\n",
+    "2", " - - ", "0", ":", "Q1", " ", "L2", ":", "s", "\n",
 ];
 
 /// The status of the stored run over this source and sink.
@@ -220,7 +220,7 @@ fn failing_sink(rt: HostRuntime) -> Result<(), Fail> {
         before.extend_from_slice(piece.as_bytes())?;
     }
     // A call past the last piece isn't made, so its failure is none.
-    let mut sink = MemSink::new(alloc, 100, 100, vec![in alloc; 23]?)?;
+    let mut sink = MemSink::new(alloc, 100, 100, vec![in alloc; 26]?)?;
     assert_eq!(rt; stored_run(alloc, Vec::new(alloc), &mut sink)?, 0);
     assert_eq!(rt; sink.written(), TRACE);
     assert_eq!(rt; before.as_slice(), TRACE);

@@ -8,10 +8,11 @@
 mod changes;
 mod command_line;
 #[cfg(test)]
+mod cycle_tests;
+#[cfg(test)]
 mod edge_tests;
 mod fault_lines;
 mod input;
-mod interlocking;
 mod output;
 #[cfg(test)]
 mod packed_tests;

@@ -23,7 +23,7 @@ const JUNCTION: &str = "file PTS\nP1 over T2 .\nfile SIG\nS1 .\nS2 .\nfile TCS\n
     R1 xs if T2 o, U1 l .\nR2 xs if T3 o, U3 l .\nfile OPT\nfile IPT\n";
 
 /// The image of a layout that has no faults.
-fn image_of(rt: &impl Abort, alloc: Global, layout: &str) -> Result<Image, Fail> {
+pub fn image_of(rt: &impl Abort, alloc: Global, layout: &str) -> Result<Image, Fail> {
     let text = layout.as_bytes();
     assert!(rt; text.len() <= 2_097_152);
     let mut tokens = Tokens::new(text, 0);

@@ -1,28 +1,32 @@
 //! The trace: what the steps of a script write, minor cycle by minor cycle.
 
-ghost use Rattle.std.specs.Prelude.{◌≡◌, ◌+◌, ◌<◌, ◌^◌, ◌++◌, codes, length, decimal, IfOk, OnOk};
+ghost use Rattle.std.specs.Prelude.{◌≡◌, ◌+◌, ◌<◌, ◌^◌, ◌++◌, All, None, codes, length, decimal, IfOk, OnOk};
 ghost use Rattle.ssi_base.specs.Streams.{Writes};
-ghost use Rattle.ssi_identities.specs.DataSets.{counts_of};
-ghost use Rattle.ssi_identities.specs.Facts.{IsWithinLimits, fact_count_of};
-ghost use Rattle.ssi_run.specs.Worlds.{minor_cycle_of, with_request};
-ghost use Rattle.ssi_run.specs.Traces.{Session, after_cycles, after_step, cycles_in, cycles_of, line_of, lines_of, put_text, step_text, steps_text, taken_text};
+ghost use Rattle.ssi_cycle.specs.Cores.{after_event_on};
+ghost use Rattle.ssi_cycle.specs.Worlds.Event.{Put, Minor};
+ghost use Rattle.ssi_run.specs.Scripts.{IsStepOf};
+ghost use Rattle.ssi_run.specs.Traces.{after_cycles, after_step, cycles_in, cycles_of, line_of, lines_of, put_text, step_text, steps_text, taken_text};
 
-use crate::changes::write_changes_by;
-use crate::interlocking::{Full, Interlocking};
+use crate::changes::write_changes;
 use crate::pieces::{write_three, write_two};
 use crate::script::ScriptStep;
 use ssi_base::{Failed, Sink, decimal, write_all};
+use ssi_cycle::{Full, Interlocking};
 use ssi_identities::Kind;
 use ssi_image::Image;
-use ssi_state::State;
 
 /// Writes the panel and the name of the request that was taken, or a hyphen.
-fn write_taken<K: Sink>(sink: &mut K, image: &Image, taken: Option<u16>) -> Result<(), Failed>
+fn write_taken<K: Sink>(sink: &mut K, image: &Image, taken: Option<(u8, u16)>) -> Result<(), Failed>
     ensures { Writes (K.written sink.old) (K.written sink.new) (K.faults sink.old) (K.faults sink.new)
         (taken_text image.now taken) result }
 {
     match taken {
-        Some(request) => write_two(sink, b"0:", image.name(Kind::Request, request)),
+        Some((panel, request)) => write_three(
+            sink,
+            decimal(u64::from(panel)).as_slice(),
+            b":",
+            image.name(Kind::Request, request),
+        ),
         None => write_all(sink, b"-"),
     }
 }
@@ -35,52 +39,36 @@ fn write_number<K: Sink>(sink: &mut K, number: u64) -> Result<(), Failed>
     write_two(sink, decimal(number).as_slice(), b" - - ")
 }
 
-/// Makes a minor cycle and writes its line.
+/// Makes a minor cycle in which nothing arrives, and writes its line.
 #[tactic(auto, using(ssi_base::proofs::Writing::joins))]
-fn write_cycle<K: Sink>(
-    sink: &mut K,
-    image: &Image,
-    core: &mut Interlocking,
-    shown: &mut State,
-    number: u64,
-) -> Result<(), Failed>
-    requires limits { IsWithinLimits (counts_of image.now) }
-    requires facts { length core.old.state ≡ fact_count_of (counts_of image.now) }
-    requires shown { shown.old ≡ core.old.state }
-    ensures cycle { core.new ≡ minor_cycle_of image.now core.old }
-    ensures facts { length core.new.state ≡ length core.old.state }
-    ensures noted { OnOk result (shown.new ≡ core.new.state) }
+fn write_cycle<K: Sink>(sink: &mut K, core: &mut Interlocking, number: u64) -> Result<(), Failed>
+    ensures cycle { core.new ≡ after_event_on core.old (Minor None) }
     ensures writes { Writes (K.written sink.old) (K.written sink.new) (K.faults sink.old) (K.faults sink.new)
-        (line_of image.now (record { world = core.old; number = number })) result }
+        (line_of core.old.plan (record { world = core.old.world; number = number })) result }
 {
-    let taken = core.minor_cycle(image);
+    let did = core.minor_cycle(None);
     write_number(sink, number)?;
-    write_taken(sink, image, taken)?;
-    write_changes_by(sink, image, taken, shown, core.state())?;
+    write_taken(sink, core.image(), did.taken)?;
+    write_changes(sink, core)?;
     write_all(sink, b"\n")
 }
 
 /// Makes minor cycles from a number on, and writes their lines.
 fn write_cycles<K: Sink>(
     sink: &mut K,
-    image: &Image,
     core: &mut Interlocking,
-    shown: &mut State,
     first: u64,
     count: u64,
 ) -> Result<(), Failed>
     requires fits { first + count < 2 ^ 64 }
-    requires limits { IsWithinLimits (counts_of image.now) }
-    requires facts { length core.old.state ≡ fact_count_of (counts_of image.now) }
-    requires shown { shown.old ≡ core.old.state }
-    ensures after { OnOk result ((record { world = core.new; number = first + count }) ≡ after_cycles image.now count (record { world = core.old; number = first })) }
-    ensures facts { length core.new.state ≡ length core.old.state }
-    ensures noted { OnOk result (shown.new ≡ core.new.state) }
+    ensures after { OnOk result ((record { world = core.new.world; number = first + count })
+        ≡ after_cycles core.old.plan count (record { world = core.old.world; number = first })) }
+    ensures plan { core.new.plan ≡ core.old.plan }
     ensures writes { Writes (K.written sink.old) (K.written sink.new) (K.faults sink.old) (K.faults sink.new)
-        (lines_of image.now count (record { world = core.old; number = first })) result }
+        (lines_of core.old.plan count (record { world = core.old.world; number = first })) result }
 {
     for turn in 0..count {
-        write_cycle(sink, image, core, shown, first + turn)?;
+        write_cycle(sink, core, first + turn)?;
     }
     Ok(())
 }
@@ -88,31 +76,27 @@ fn write_cycles<K: Sink>(
 /// Does a step and writes what it writes. Answers how many minor cycles were made up to its end.
 fn write_step<K: Sink>(
     sink: &mut K,
-    image: &Image,
     core: &mut Interlocking,
-    shown: &mut State,
     number: u64,
     step: ScriptStep,
 ) -> Result<u64, Failed>
     requires fits { number + cycles_of step < 2 ^ 64 }
-    requires limits { IsWithinLimits (counts_of image.now) }
-    requires facts { length core.old.state ≡ fact_count_of (counts_of image.now) }
-    requires shown { shown.old ≡ core.old.state }
-    ensures after { IfOk result (λ now. (record { world = core.new; number = now }) ≡ after_step image.now step (record { world = core.old; number = number })) }
+    requires can { IsStepOf (length core.old.plan.requests) step }
+    ensures after { IfOk result (λ now. (record { world = core.new.world; number = now })
+        ≡ after_step core.old.plan step (record { world = core.old.world; number = number })) }
     ensures made { IfOk result (λ now. now ≡ number + cycles_of step) }
-    ensures facts { length core.new.state ≡ length core.old.state }
-    ensures noted { OnOk result (shown.new ≡ core.new.state) }
+    ensures plan { core.new.plan ≡ core.old.plan }
     ensures writes { Writes (K.written sink.old) (K.written sink.new) (K.faults sink.old) (K.faults sink.new)
-        (step_text image.now step (record { world = core.old; number = number })) result }
+        (step_text core.old.plan step (record { world = core.old.world; number = number })) result }
 {
     match step {
-        ScriptStep::Panel { request, .. } => {
-            write_put(sink, image, core, request)?;
+        ScriptStep::Panel { panel, request } => {
+            write_put(sink, core, panel, request)?;
             Ok(number)
         }
         ScriptStep::Cycle { count } => {
             let count = u64::from(count);
-            write_cycles(sink, image, core, shown, number, count)?;
+            write_cycles(sink, core, number, count)?;
             Ok(number + count)
         }
     }
@@ -121,38 +105,41 @@ fn write_step<K: Sink>(
 /// Puts a request, and writes a line where 64 wait already.
 fn write_put<K: Sink>(
     sink: &mut K,
-    image: &Image,
     core: &mut Interlocking,
+    panel: u8,
     request: u16,
 ) -> Result<(), Failed>
-    ensures put { core.new ≡ with_request core.old request }
+    requires panel { panel ≡ 0 }
+    requires there { request < length core.old.plan.requests }
+    ensures put { core.new ≡ after_event_on core.old (Put request) }
     ensures writes { Writes (K.written sink.old) (K.written sink.new) (K.faults sink.old) (K.faults sink.new)
-        (put_text image.now core.old request) result }
+        (put_text core.old.plan core.old.world request) result }
 {
-    match core.put(request) {
+    match core.put(panel, request) {
         Ok(()) => Ok(()),
-        Err(Full) => write_three(sink, b"full 0 ", image.name(Kind::Request, request), b"\n"),
+        Err(Full) => write_three(
+            sink,
+            b"full 0 ",
+            core.image().name(Kind::Request, request),
+            b"\n",
+        ),
     }
 }
 
 /// Does the steps, one after another, and writes what they write.
 pub fn write_steps<K: Sink>(
     sink: &mut K,
-    image: &Image,
     core: &mut Interlocking,
-    shown: &mut State,
     steps: &[ScriptStep],
 ) -> Result<(), Failed>
     requires fits { cycles_in steps.now < 2 ^ 64 }
-    requires limits { IsWithinLimits (counts_of image.now) }
-    requires facts { length core.old.state ≡ fact_count_of (counts_of image.now) }
-    requires shown { shown.old ≡ core.old.state }
+    requires can { All (IsStepOf (length core.old.plan.requests)) steps.now }
     ensures { Writes (K.written sink.old) (K.written sink.new) (K.faults sink.old) (K.faults sink.new)
-        (steps_text image.now steps.now (record { world = core.old; number = 0 })) result }
+        (steps_text core.old.plan steps.now (record { world = core.old.world; number = 0 })) result }
 {
     let mut number = 0;
     for step in steps {
-        number = write_step(sink, image, core, shown, number, *step)?;
+        number = write_step(sink, core, number, *step)?;
     }
     Ok(())
 }

@@ -14,13 +14,13 @@ pub returns-in-Ok-clause-answered : goal.returns-in-Ok-clause-answered
 returns-in-Ok-clause-answered g c = λ told.
     let input = c.args.input.now in
     let old = c.args.tokens.now in
-    mapped (PlanAnswers input c.in-Ok.plan old.left old.end) (TreeAnswers input c.args.tree.now old.left old.end)
+    mapped (PlanAnswers input c.in-Ok.plan old.left old.end) (TreeAnswers input c.args.tree old.left old.end)
     (λ answer p. a_plan answer c.in-Ok.ensures.0 (subst (λ (plan : Plan). PlanAnswers input plan old.left old.end answer) c.in-Ok.ensures.1 p)) c.run_plan.result (c.run_plan.ensures.answered told)
 
 pub returns-in-Err-Faults-clause-answered : goal.returns-in-Err-Faults-clause-answered
 returns-in-Err-Faults-clause-answered g c = λ told.
     let input = c.args.input.now in
-    let tree = c.args.tree.now in
+    let tree = c.args.tree in
     let old = c.args.tokens.now in
     let answer = subst (λ (fault : ResolveFault). IsAnswer input tree (Err fault)) c.in-Err-Faults.field-0-is c.in-Err-Faults.ensures in
     let such = subst (λ (list : List Fault). TreeAnswers input tree old.left old.end (faulty (name_fault_lines input list))) (sym (c.as_slice.ensures.value ∙ ap (λ (list : FaultList). list.items.items) c.in-Err-Faults.faults-is ∙ answer.1)) (name_faults answer.0) in
