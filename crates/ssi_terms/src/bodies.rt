@@ -14,7 +14,7 @@ ghost use Rattle.ssi_terms.specs.Read as spec;
 ghost use Rattle.ssi_terms.specs.Tests.{any_token, ends_list};
 
 use crate::conditions::{MOST_GROUPS, cond_within};
-use crate::ending::{front_ended, list_ended};
+use crate::ending::{front_ended, list_ended, room_for};
 use crate::read_fault::ReadFault;
 use crate::spots::{any_identity, rule_word, token};
 use crate::tree::{BodyTree, CommandTree, PartTree};
@@ -154,8 +154,9 @@ fn body_within(
     ensures reads { Reads (spec.body groups choices tokens.old.left) result tokens.new.left }
     ensures goes_on { GoesOn tokens.old tokens.new }
 {
-    let mut parts = Vec::new(alloc);
-    parts.push(part(alloc, tokens, groups, choices)?)?;
+    let first = part(alloc, tokens, groups, choices)?;
+    let mut parts = Vec::with_capacity(alloc, room_for(tokens))?;
+    parts.push(first)?;
     'parts: while tokens.eat(Wanted::Kind(TokenKind::Comma)) {
         parts.push(part(alloc, tokens, groups, choices)?)?;
     }

@@ -13,7 +13,7 @@ ghost use Rattle.ssi_terms.specs.Grammar.{deepest, SpellsCond};
 ghost use Rattle.ssi_terms.specs.Read as spec;
 ghost use Rattle.ssi_terms.specs.Tests.{ends_list};
 
-use crate::ending::list_ended;
+use crate::ending::{list_ended, room_for};
 use crate::read_fault::ReadFault;
 use crate::spots::{any_identity, number, one_of_words, rule_word, token};
 use crate::tree::{CondTree, ItemTree};
@@ -111,8 +111,9 @@ pub fn cond_within(alloc: Global, tokens: &mut Tokens<'_>, groups: u8) -> Result
     ensures reads { Reads (spec.cond groups tokens.old.left) result tokens.new.left }
     ensures goes_on { GoesOn tokens.old tokens.new }
 {
-    let mut items = Vec::new(alloc);
-    items.push(item(alloc, tokens, groups)?)?;
+    let first = item(alloc, tokens, groups)?;
+    let mut items = Vec::with_capacity(alloc, room_for(tokens))?;
+    items.push(first)?;
     'items: while tokens.eat(Wanted::Kind(TokenKind::Comma)) {
         items.push(item(alloc, tokens, groups)?)?;
     }

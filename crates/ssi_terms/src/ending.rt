@@ -1,7 +1,7 @@
 //! What comes after a part of the text.
 
-ghost use Rattle.std.specs.Prelude.{◌≡◌, codes};
-ghost use Rattle.ssi_lexer.specs.TokenTests.{word};
+ghost use Rattle.std.specs.Prelude.{◌≡◌, codes, if◌then◌else◌};
+ghost use Rattle.ssi_lexer.specs.TokenTests.{comma, sees, word};
 ghost use Rattle.ssi_terms.specs.Ending.{ended, fault_at, front_ended as front_ended_of, if_ended, too_deep_at};
 ghost use Rattle.ssi_terms.specs.Tests.{ends_list};
 
@@ -49,6 +49,17 @@ fn if_list_ends<T: Drop>(tokens: &Tokens<'_>, found: T) -> Result<T, ReadFault>
         Err(fault(tokens))
     } else {
         Ok(found)
+    }
+}
+
+/// How many parts a list gets room for once its first is read: two where a `,` comes next, and one otherwise.
+pub fn room_for(tokens: &Tokens<'_>) -> usize
+    ensures { result ≡ (if sees comma tokens.now.left then 2 else 1) }
+{
+    if tokens.sees(Wanted::Kind(TokenKind::Comma)) {
+        2
+    } else {
+        1
     }
 }
 

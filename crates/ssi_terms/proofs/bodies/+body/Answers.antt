@@ -10,16 +10,16 @@ use Rattle.ssi_terms.specs.Read.{body, body_by}
 use Rattle.ssi_terms.proofs.BodyRules.{good_part_at, choice_none, choice_opened}
 use Rattle.ssi_terms.proofs.bodies.+body.Goals as goal
 
-pub body_within-returns-in_err-part-clause-reads : goal.body_within-returns-in_err-part-clause-reads
+pub body_within-returns-in_err-first-clause-reads : goal.body_within-returns-in_err-first-clause-reads
 unfolding body body_by separated_by
-body_within-returns-in_err-part-clause-reads t c = first_of (search rules, grind (arith, common_steps))
+body_within-returns-in_err-first-clause-reads t c = first_of (search rules, grind (arith, common_steps))
 
 pub body_within-parts-init : goal.body_within-parts-init
 unfolding body body_by separated_by
 body_within-parts-init t c = first_of (search rules, grind (arith, common_steps))
 
-pub body_within-returns-in_err-part-2-clause-reads : goal.body_within-returns-in_err-part-2-clause-reads
-body_within-returns-in_err-part-2-clause-reads t c =
+pub body_within-returns-in_err-part-clause-reads : goal.body_within-returns-in_err-part-clause-reads
+body_within-returns-in_err-part-clause-reads t c =
     let e = c.parts.invariant.reads ∙ ap spec.body_of (mark_go comma some_comma some_comma_is _ (spec.part_by (spec.choice c.args.groups c.args.choices)) (PartOf (SpellsChoice c.args.groups c.args.choices)) Always Always (λ ts e. tt) (good_part_at c.args.groups c.args.choices) c.parts.parts.items c.parts.tokens c.eat.new.self _ c.eat.ensures.seen c.eat.ensures.moved c.parts-test.true) in
     first_of (search rules, grind (arith, common_steps))
 

@@ -10,16 +10,16 @@ use Rattle.ssi_terms.specs.Grammar.{ItemOf, SpellsGroup, SpellsCond}
 use Rattle.ssi_terms.proofs.CondRules.{good_item_at, good_cond, is_or, or_meets, ListEnds, some_or, some_or_is, group_none, group_opened}
 use Rattle.ssi_terms.proofs.conditions.+cond.Goals as goal
 
-pub cond_within-returns-in_err-item-clause-reads : goal.cond_within-returns-in_err-item-clause-reads
+pub cond_within-returns-in_err-first-clause-reads : goal.cond_within-returns-in_err-first-clause-reads
 unfolding cond cond_by separated_by
-cond_within-returns-in_err-item-clause-reads t c = first_of (search rules, grind (arith, common_steps))
+cond_within-returns-in_err-first-clause-reads t c = first_of (search rules, grind (arith, common_steps))
 
 pub cond_within-items-init : goal.cond_within-items-init
 unfolding cond cond_by separated_by
 cond_within-items-init t c = first_of (search rules, grind (arith, common_steps))
 
-pub cond_within-returns-in_err-item-2-clause-reads : goal.cond_within-returns-in_err-item-2-clause-reads
-cond_within-returns-in_err-item-2-clause-reads t c =
+pub cond_within-returns-in_err-item-clause-reads : goal.cond_within-returns-in_err-item-clause-reads
+cond_within-returns-in_err-item-clause-reads t c =
     let e = c.items.invariant.reads ∙ ap spec.cond_of (mark_go comma some_comma some_comma_is _ (spec.item_by (spec.group c.args.groups)) (ItemOf (SpellsGroup c.args.groups)) Always Always (λ ts e. tt) (good_item_at c.args.groups) c.items.items.items c.items.tokens c.eat.new.self _ c.eat.ensures.seen c.eat.ensures.moved c.items-test.true) in
     first_of (search rules, grind (arith, common_steps))
 
