@@ -21,6 +21,7 @@ use std::alloc::Global;
 
 /// The command of a tree, whose name may stand where there are too many already. Notes its faults.
 #[tactic(auto, using(std::proofs::lemmas::List::append_assoc))]
+#[inline(always)]
 fn command(
     scope: &Scope<'_>,
     many: bool,
