@@ -1,6 +1,6 @@
 //! What a body does to a state.
 
-ghost use Rattle.std.specs.Prelude.{◌≡◌, ◌≤◌, length, Option};
+ghost use Rattle.std.specs.Prelude.{◌≡◌, ◌≤◌, [], length, Option};
 ghost use Rattle.arrayvec.specs.ArrayVec.{array_vec_len};
 ghost use Rattle.ssi_identities.specs.declared.rule.Body.{Body};
 ghost use Rattle.ssi_identities.specs.declared.rule.Cond.{Cond};
@@ -50,14 +50,21 @@ fn branch<'a>(
 }
 
 /// Does what a body of the image does, by its code.
-pub fn run<'a>(image: &'a Image, code: &'a [u8], state: &mut State, report: u8)
+pub fn run<'a>(
+    image: &'a Image,
+    stack: &mut Stack<'a>,
+    code: &'a [u8],
+    state: &mut State,
+    report: u8,
+)
+    requires empty { stack.old.items ≡ [] }
     requires well { IsWell image.now }
     requires facts { length state.old ≡ fact_count_of (counts_of image.now) }
     requires code { IsSomeBodyCode image.now code.now }
-    ensures { (scope : BodyScope) (body : Body) → IsBodyCode image.now scope body code.now
+    ensures effect { (scope : BodyScope) (body : Body) → IsBodyCode image.now scope body code.now
         → state.new ≡ effect_of image.now body state.old report }
+    ensures empty { stack.new.items ≡ [] }
 {
-    let mut stack: Stack<'a> = Stack::new();
     let mut items = code;
     'run: loop {
         if items.is_empty() {
@@ -76,8 +83,8 @@ pub fn run<'a>(image: &'a Image, code: &'a [u8], state: &mut State, report: u8)
             }
             BodyOp::If => {
                 let (choice, rest) = piece(operand);
-                set_aside(&mut stack, Frame::of(rest));
-                items = branch(image, &mut stack, choice, state, report);
+                set_aside(stack, Frame::of(rest));
+                items = branch(image, stack, choice, state, report);
             }
         }
     }

@@ -34,7 +34,8 @@ impl<'a> Frame<'a> {
     }
 }
 
-/// The levels round the one that is being read, the outermost first.
+/// The room that the evaluator needs while it reads: the levels round the one that is being read, the
+/// outermost first. It is empty between calls, so one serves any number of them.
 pub type Stack<'a> = ArrayVec<Frame<'a>, 32>;
 
 /// Sets a level aside, while one within it is read. A body, a guard in it and the condition of points that

@@ -1,6 +1,6 @@
 //! The conditions and bodies of an image, by their places.
 
-ghost use Rattle.std.specs.Prelude.{◌≡◌, true, is_some, length, Some};
+ghost use Rattle.std.specs.Prelude.{◌≡◌, true, [], is_some, length, Some};
 ghost use Rattle.ssi_identities.specs.declared.rule.Body.{Body};
 ghost use Rattle.ssi_identities.specs.declared.rule.Cond.{Cond};
 ghost use Rattle.ssi_identities.specs.Codes.{code_of_cond};
@@ -41,6 +41,39 @@ pub fn eval_cond(image: &Image, place: CondAt, state: &State, report: u8) -> boo
     value(image, &mut stack, code, state, report)
 }
 
+/// Does what the body at a place does, in a state and with a report's byte, and reads it on this stack.
+pub fn run_body_with<'a>(
+    image: &'a Image,
+    stack: &mut Stack<'a>,
+    place: BodyAt,
+    state: &mut State,
+    report: u8,
+)
+    requires empty { stack.old.items ≡ [] }
+    requires there { is_some (body_at image.now place) ≡ true }
+    requires facts { length state.old ≡ fact_count_of (counts_of image.now) }
+    ensures effect { (body : Body) → body_at image.now place ≡ Some body
+        → state.new ≡ effect_of image.now body state.old report }
+    ensures empty { stack.new.items ≡ [] }
+{
+    match place {
+        BodyAt::Request(request) => {
+            let code = image.request_code(request).unwrap();
+            run(image, stack, code, state, report);
+        }
+        BodyAt::Statement(statement) => {
+            let (guard, commands) = image.statement_code(statement).unwrap();
+            if value(image, stack, guard, state, report) {
+                run(image, stack, commands, state, report);
+            }
+        }
+        BodyAt::Input(module) => {
+            let code = image.input_code(module).unwrap();
+            run(image, stack, code, state, report);
+        }
+    }
+}
+
 /// Does what the body at a place does, in a state and with a report's byte.
 pub fn run_body(image: &Image, place: BodyAt, state: &mut State, report: u8)
     requires there { is_some (body_at image.now place) ≡ true }
@@ -48,21 +81,6 @@ pub fn run_body(image: &Image, place: BodyAt, state: &mut State, report: u8)
     ensures { (body : Body) → body_at image.now place ≡ Some body
         → state.new ≡ effect_of image.now body state.old report }
 {
-    match place {
-        BodyAt::Request(request) => {
-            let code = image.request_code(request).unwrap();
-            run(image, code, state, report);
-        }
-        BodyAt::Statement(statement) => {
-            let (guard, commands) = image.statement_code(statement).unwrap();
-            let mut stack = Stack::new();
-            if value(image, &mut stack, guard, state, report) {
-                run(image, commands, state, report);
-            }
-        }
-        BodyAt::Input(module) => {
-            let code = image.input_code(module).unwrap();
-            run(image, code, state, report);
-        }
-    }
+    let mut stack = Stack::new();
+    run_body_with(image, &mut stack, place, state, report);
 }

@@ -12,11 +12,11 @@ use Rattle.ssi_eval.proofs.body.run.Goals as goal
 pub run-init : goal.run-init
 run-init c = record {
   facts = c.requires.facts;
-  on = λ scope body is. starts c.args.image.now scope c.args.report body c.args.code.now c.new-stack.result.items c.args.state.now c.new-stack.ensures is;
+  on = λ scope body is. starts c.args.image.now scope c.args.report body c.args.code.now c.args.stack.now.items c.args.state.now c.requires.empty is;
 }
 
-pub returns-in_default : goal.returns-in_default
-returns-in_default c = λ scope body is. finished c.args.image.now scope c.args.report c.run.items.now c.run.stack.items c.run.state _ (empty_of c.run.stack.items c.in_default.ensures.variant.1) (is_nil _ _ c.is_empty.ensures c.if-is_empty.true) (c.run.invariant.on scope body is)
+pub returns-in_default-clause-effect : goal.returns-in_default-clause-effect
+returns-in_default-clause-effect c = λ scope body is. finished c.args.image.now scope c.args.report c.run.items.now c.run.stack.items c.run.state _ (empty_of c.run.stack.items c.in_default.ensures.variant.1) (is_nil _ _ c.is_empty.ensures c.if-is_empty.true) (c.run.invariant.on scope body is)
 
 pub run-preserved-then-is_empty : goal.run-preserved-then-is_empty
 run-preserved-then-is_empty c = record {
