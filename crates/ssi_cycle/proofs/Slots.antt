@@ -41,11 +41,12 @@ statement_next plan from end old new within reach acts =
     ap (λ rows. after_statements plan rows old) (between_next plan.statements from end within reach) ∙ ap (after_statements plan (statements_between plan.statements (from + 1) end)) (sym done)
 
 -- those of a slot, as far as there are so many
-pub slot_statements : (statements : List StmtPlan) (first share end slot : ℕ) → share ≡ share_of (length statements) → first ≡ slot * share → end ≡ min (length statements) (first + share)
-    → statements_in statements slot ≡ statements_between statements first end
-slot_statements statements first share end slot share_is first_is end_is =
-    let room : end - first ≡ min share (length (drop first statements)) = rw (length-drop, end_is) (omega arith) in
-    rw (← share_is, ← first_is, room) (sym (take_min share (drop first statements)))
+pub slot_statements : (statements : List StmtPlan) (count share from end slot : ℕ) → count ≡ length statements → share ≡ share_of count → from ≡ slot → end ≡ min count (from * share + share)
+    → statements_in statements slot ≡ statements_between statements (from * share) end
+slot_statements statements count share from end slot count_is share_is from_is end_is =
+    let first = from * share in
+    let room : end - first ≡ min share (length (drop first statements)) = rw (length-drop, end_is, count_is) (omega arith) in
+    rw (← count_is, ← share_is, ← from_is, room) (sym (take_min share (drop first statements)))
 
 -- a statement leaves as many facts as there were
 pub statement_keeps : (plan : Plan) (from : ℕ) (old new : State) → from < length plan.statements → ((body : Body) → body_at plan (Statement from) ≡ Some body → new ≡ effect_of plan body old 0)

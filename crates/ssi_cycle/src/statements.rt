@@ -7,7 +7,7 @@ ghost use Rattle.ssi_identities.specs.Wells.{IsWell};
 ghost use Rattle.ssi_cycle.specs.Statements.{after_statements, share_of as share_of_count, statements_in};
 
 use crate::NO_REPORT;
-use ssi_eval::run_body;
+use ssi_eval::{Stack, run_body_with};
 use ssi_image::{BodyAt, Image};
 use ssi_state::State;
 
@@ -31,8 +31,13 @@ pub fn run_statements(image: &Image, slot: u8, state: &mut State) -> bool
     let share = share_of(count);
     let first = u16::from(slot) * share;
     let end = count.min(first + share);
-    for number in first..end {
-        run_body(image, BodyAt::Statement(number), state, NO_REPORT);
+    if end <= first {
+        return false;
     }
-    first < end
+    let mut stack = Stack::new();
+    for number in first..end {
+        let place = BodyAt::Statement(number);
+        run_body_with(image, &mut stack, place, state, NO_REPORT);
+    }
+    true
 }

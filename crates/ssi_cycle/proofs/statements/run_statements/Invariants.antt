@@ -1,4 +1,4 @@
-use Rattle.std.proofs.Common.{◌≡◌, length}
+use Rattle.std.proofs.Common.{◌≡◌, [], length}
 use Rattle.ssi_cycle.specs.Statements.{after_statements}
 use Rattle.ssi_cycle.proofs.Slots.{statements_between}
 use Rattle.ssi_cycle.proofs.statements.run_statements.Given as goal
@@ -7,4 +7,5 @@ abbrev pub invariant-loop-number : goal.invariant-loop-number
 invariant-loop-number l = record {
   left : after_statements l.image (statements_between l.image.statements l.number l.end) l.state ≡ after_statements l.image (statements_between l.image.statements l.first l.end) l.fn.state;
   facts : length l.state ≡ length l.fn.state;
+  empty : l.stack.items ≡ [];
 }
