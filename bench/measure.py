@@ -27,6 +27,11 @@ TESTS_ASKED = 200_000_000
 LEVELS = 8
 BITS = 8
 SECONDS_ASKED = 0.25
+CYCLES = 1_000_000
+QUIET_ASKED = 0.10
+TRAINS_ASKED = 0.12
+# Points, signals and tracks: as many as 63 modules can wire with the others.
+WIRED = 20, 208, 216
 MEMORY_ASKED = 96 * 2**20
 CHARACTERS = "ABCDEFGHIJKLMNOPQRSTUVWXYZ0123456789-"
 FILES = "PTS SIG TCS RTE SUB FLG TFM PRR PFM FOP OPT IPT".split()
@@ -263,6 +268,126 @@ def nested():
     return whole + " " * (2_000_000 - len(whole))
 
 
+def inputs(points, signals, tracks):
+    """An input for each module: each report of eight 1s says what was so before."""
+    entries, address = [], 0
+    for names_of, size, forms in [
+        (points, 2, ["if {bit} h then {name} dn end", "if {next} h then {name} dr end"]),
+        (signals, 8, ["if {bit} h then {name} lp else {name} xlp end"]),
+        (tracks, 8, ["if {bit} h then {name} c else {name} o end"]),
+    ]:
+        for at in range(0, len(names_of), size):
+            address += 1
+            wide = len(forms)
+            items = [
+                form.format(bit=wide * pin, next=wide * pin + 1, name=name)
+                for pin, name in enumerate(names_of[at : at + size])
+                for form in forms
+            ]
+            entries.append(f"{address} {','.join(items)}")
+    return entries
+
+
+def outputs(points, signals, tracks, flags):
+    """Conditions for the bits of each module of points and signals."""
+    entries, address = [], 0
+    for at in range(0, len(points), 2):
+        address += 1
+        bits = [f"bit {2 * pin} if {p} cn bit {2 * pin + 1} if {p} cr" for pin, p in enumerate(points[at : at + 2])]
+        entries.append(f"{address} {' '.join(bits)}")
+    for at in range(0, len(signals), 8):
+        address += 1
+        bits = [f"bit {pin} if {flags[(at + pin) % FLAGS]} s,{tracks[(at + pin) % len(tracks)]} c" for pin in range(8)]
+        entries.append(f"{address} {' '.join(bits)}")
+    return entries
+
+
+def limits():
+    """A layout with its limits filled as far as 63 modules allow, each slot with 64 statements, run for 1,000,000 minor cycles."""
+    points, signals, tracks = names("P", WIRED[0]), names("S", WIRED[1]), names("T", WIRED[2])
+    routes, subs, flags = names("R", 512), names("U", 1_024), names("L", FLAGS)
+    statements = [
+        f"{subs[i % len(subs)]} f if {routes[i % len(routes)]} xs,{tracks[i % len(tracks)]} c" for i in range(STATEMENTS)
+    ]
+    bodies = [
+        f"{q} if {routes[i % len(routes)]} a,{tracks[i % len(tracks)]} c,{points[i % len(points)]} crf then"
+        f" if {flags[i % FLAGS]} s then {flags[i % FLAGS]} xs else {flags[i % FLAGS]} s end end"
+        for i, q in enumerate(names("Q", REQUESTS))
+    ]
+    files = layout(
+        {
+            "PTS": entered(f"{p} over {','.join(turns(tracks, 4 * i, 4))}" for i, p in enumerate(points)),
+            "SIG": entered(signals),
+            "TCS": entered(tracks),
+            "RTE": entered(
+                f"{r} from {signals[i % len(signals)]} by {','.join(turns(subs, 2 * i, 32))}" for i, r in enumerate(routes)
+            ),
+            "SUB": entered(
+                f"{u} on {tracks[i % len(tracks)]} with {','.join(p + ' cr' for p in turns(points, i, 8))}"
+                for i, u in enumerate(subs)
+            ),
+            "FLG": entered(flags),
+            "TFM": entered(wiring(points, signals, tracks)),
+            "PRR": entered(bodies),
+            "PFM": entered(f"{p} cr if {tracks[i]} c" for i, p in enumerate(points)),
+            "FOP": entered(statements),
+            "OPT": entered(outputs(points, signals, tracks, flags)),
+            "IPT": entered(inputs(points, signals, tracks)),
+        }
+    )
+    return files + f"file RUN\ncycle {CYCLES} .\n"
+
+
+JUNCTION = {
+    "PTS": ["P1 over T2"],
+    "SIG": ["S1", "S2"],
+    "TCS": ["T1", "T2", "T3"],
+    "RTE": ["R1 from S1 by U1, U2", "R2 from S2 by U3, U4"],
+    "SUB": ["U1 on T2 with P1 cr", "U2 on T3", "U3 on T3", "U4 on T2 with P1 cr"],
+    "TFM": ["1 points P1 at 0", "2 signal S1 at 0, S2 at 1", "3 track T1 at 0, T2 at 1, T3 at 2"],
+    "PRR": [
+        "Q1 if R1 a, P1 crf, U3 f, U4 f then R1 s, P1 cr, U1 l, U2 l end",
+        "Q2 if R2 a, P1 crf, U1 f, U2 f then R2 s, P1 cr, U3 l, U4 l end",
+        "Q3 if P1 cnf then P1 cn end",
+    ],
+    "PFM": ["P1 cn if T2 c, U1 f, U4 f", "P1 cr if T2 c"],
+    "FOP": [
+        "U1 f if R1 xs, T2 c",
+        "U2 f if U1 f, T3 c",
+        "U3 f if R2 xs, T3 c",
+        "U4 f if U3 f, T2 c",
+        "R1 xs if T2 o, U1 l",
+        "R2 xs if T3 o, U3 l",
+    ],
+    "OPT": [
+        "1 bit 0 if P1 cn bit 1 if P1 cr",
+        "2 bit 0 if R1 s, U1 l, U2 l, P1 dr, T2 c, T3 c bit 1 if R2 s, U3 l, U4 l, P1 dr, T2 c, T3 c",
+    ],
+    "IPT": [
+        "1 if 0 h then P1 dn else P1 xdn end, if 1 h then P1 dr else P1 xdr end",
+        "2 if 0 h then S1 lp else S1 xlp end, if 1 h then S2 lp else S2 xlp end",
+        "3 if 0 h then T1 c else T1 o end, if 1 h then T2 c else T2 o end, if 2 h then T3 c else T3 o end",
+    ],
+}
+
+
+def junction(script):
+    """The junction of the examples, with a script."""
+    return layout({name: entered(entries) for name, entries in JUNCTION.items()}) + "file RUN\n" + script
+
+
+def quiet_junction():
+    """1,000,000 minor cycles of a junction in which nothing happens."""
+    return junction(f"cycle {CYCLES} .\n")
+
+
+def trains():
+    """1,000,000 minor cycles of a junction over which trains pass all the time, each in 512, and how many trains these are."""
+    train = "panel 0 Q1 . cycle 256 . occupy T2 . cycle 64 . occupy T3 . clear T2 . cycle 128 . clear T3 . cycle 64 .\n"
+    count = (CYCLES - 64) // 512
+    return junction("cycle 64 .\n" + train * count), count
+
+
 def unwired():
     """As many tracks as the input can declare, none of them wired, and how many faults these are."""
     count = (LIMIT - len(layout({}))) // len("TAAAA.")
@@ -296,18 +421,23 @@ def taken_and_lines(output):
     """How many minor cycles took a request, and how many lines there are."""
     with open(output, "rb") as it:
         lines = it.read().splitlines()
-    return sum(b" - - 0:" in line for line in lines), len(lines)
+    return sum(b" 0:" in line for line in lines), len(lines)
 
 
 def faults_by_code(output):
-    """How many lines each fault has, by its code; `later` counts as one."""
+    """How many lines each fault has, by its code."""
     with open(output, "rb") as it:
-        return dict(collections.Counter(line.split()[2 if b":" in line else 1].decode() for line in it))
+        return dict(collections.Counter(line.split()[2].decode() for line in it))
 
 
 def report(what, count, unit, seconds, most):
     memory = f"{most / 2**20:.1f} MiB at most" if most else "memory not measured (no `time`)"
     print(f"{what}: {seconds:.3f} s, {count / seconds / 1e6:.1f} million {unit} a second, {memory}")
+
+
+def report_time_asked(seconds, asked):
+    """Whether a run took the time asked of it."""
+    print(f"  asked of it: at most {asked} s: {'kept' if seconds <= asked else 'NOT KEPT'}")
 
 
 def report_asked(seconds, most):
@@ -339,6 +469,15 @@ def main():
         made, lines, puts = busy()
         figures = timed(program, room, "busy", made, (puts, lines))
         report(f"900,000 minor cycles, {puts:,} with a request of six items", lines, "cycles", *figures)
+        figures = timed(program, room, "quiet", quiet_junction(), (0, CYCLES))
+        report("1,000,000 minor cycles of a junction at rest", CYCLES, "cycles", *figures)
+        report_time_asked(figures[0], QUIET_ASKED)
+        made, count = trains()
+        figures = timed(program, room, "trains", made, (count, CYCLES))
+        report(f"1,000,000 minor cycles of a junction, {count:,} trains", CYCLES, "cycles", *figures)
+        report_time_asked(figures[0], TRAINS_ASKED)
+        figures = timed(program, room, "limits", limits(), (0, CYCLES))
+        report("1,000,000 minor cycles of a layout with its limits filled", CYCLES, "cycles", *figures)
         made, lines = tests()
         seconds, most = timed(program, room, "tests", made, (lines, lines))
         report("a condition of 1,000 tests, a million times", 1_000_000_000, "tests", seconds, most)
@@ -351,11 +490,11 @@ def main():
         figures = timed(program, room, "commands", made, (0, 1))
         report(f"a text of {len(made):,} bytes, in commands of three", len(made), "bytes", *figures)
         made = filled()
-        figures = timed(program, room, "filled", made, {"later": 1}, 1, faults_by_code)
+        figures = timed(program, room, "filled", made, (0, 1))
         report(f"a text of {len(made):,} bytes, its limits filled", len(made), "bytes", *figures)
         report_asked(*figures)
         made = nested()
-        figures = timed(program, room, "nested", made, {"later": 1}, 1, faults_by_code)
+        figures = timed(program, room, "nested", made, (0, 1))
         report(f"a text of {len(made):,} bytes, its rules nested", len(made), "bytes", *figures)
         report_asked(*figures)
         made, count = unwired()

@@ -144,6 +144,7 @@ impl Interlocking {
 
     /// The first fact at or past `from` whose value differs from the one before the last minor cycle, with its value now; none where none differs. It costs
     /// nothing where nothing acted.
+    #[inline(always)]
     pub fn next_change(&self, from: u16) -> Option<(u16, bool)>
         ensures change { IsNextChange self.now.before self.now.world.state from result }
         ensures facts { length self.now.world.state ≡ fact_count_of (counts_of self.now.plan) }

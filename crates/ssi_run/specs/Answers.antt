@@ -1,87 +1,91 @@
 -- What the program answers to its words and its input.
-use Rattle.std.specs.Prelude.{◌≡◌, ◌≢◌, ℕ, ◌<◌, ◌≤◌, List, [], length, Option, Some, None}
+use Rattle.std.specs.Prelude.{◌≡◌, ◌≢◌, ℕ, ◌<◌, ◌≤◌, List, [], ◌∷◌, ◌++◌, length, Option, Some, None}
 use Rattle.std.specs.Option.{IfSome}
 use Rattle.std.specs.Io.KnownBytes.{Appends}
 use Rattle.ssi_base.specs.declared.place.Place.{Place}
-use Rattle.ssi_base.specs.Streams.{AppendsPart}
 use Rattle.ssi_lexer.specs.declared.token.LexFault.{LexFault}
 use Rattle.ssi_lexer.specs.declared.token.TextEnd.{TextEnd}
 use Rattle.ssi_lexer.specs.Lexemes.{Lexeme, AreTokens}
 use Rattle.ssi_lexer.specs.Spelling.{AtAnyDepth, Takes, FirstFault, FirstTooDeep, StopsInside}
 use Rattle.ssi_terms.specs.Grammar.{deepest}
 use Rattle.ssi_terms.specs.Tests.{ends_file}
-use Rattle.ssi_identities.specs.DataSets.{Plan, names_in}
-use Rattle.ssi_identities.specs.declared.fact.Kind.TheVariants.{Request}
+use Rattle.ssi_identities.specs.DataSets.{Plan}
 use Rattle.ssi_names.specs.SourceTexts.{SourceText}
 use Rattle.ssi_names.specs.Sources.{SpellsSource}
 use Rattle.ssi_names.specs.Faults.{faults_of}
 use Rattle.ssi_names.specs.Rows.{resolved}
-use Rattle.ssi_run.specs.declared.script.ScriptStep.{ScriptStep}
+use Rattle.ssi_script.specs.declared.step.ScriptFault.{ScriptFault}
+use Rattle.ssi_script.specs.declared.step.ScriptStep.{ScriptStep}
+use Rattle.ssi_script.specs.Scripts.{IsScript}
+use Rattle.ssi_script.specs.Sessions.{session_of}
+use Rattle.ssi_script.specs.Traces.{Piece, steps_pieces, text_of}
+use Rattle.ssi_trackside.specs.Module.{ModuleState}
 use Rattle.ssi_run.specs.declared.words.Command.{Command}
 use Rattle.ssi_run.specs.declared.words.Command.TheVariants.{Run}
-use Rattle.ssi_run.specs.FaultLines.{lexical_line, syntax_line, depth_line, name_fault_lines}
-use Rattle.ssi_run.specs.Statuses.{statuses, input_limit, usage_line, too_large_line, later_line}
-use Rattle.ssi_run.specs.Scripts.{IsScript}
-use Rattle.ssi_run.specs.Traces.{trace_of}
+use Rattle.ssi_run.specs.FaultLines.{lexical_line, syntax_line, depth_line, name_fault_lines, script_fault_line}
+use Rattle.ssi_run.specs.Statuses.{statuses, input_limit, usage_line, too_large_line}
+use Rattle.ssi_run.specs.Stops.{StopsIn, left_by}
 use Rattle.ssi_run.specs.Words.{command_of}
 
--- a status, and what is written
+-- a status, and what is written, piece by piece, each with the modules as they stand when it is written
 pub record Answer : Type 0 where
   pub status : ℕ
-  pub output : List ℕ
+  pub pieces : List Piece
 
--- the answer to an input that has faults
-abbrev pub faulty : List ℕ → Answer
-faulty output = record { status = statuses.faulty; output = output }
+-- a line, or some lines of faults, alone: the modules stay as they are
+abbrev pub alone : List ModuleState → ℕ → List ℕ → Answer
+alone shelf status text = record { status = status; pieces = record { text = text; shelf = shelf } ∷ [] }
 
--- the answer to an input that was run to its end
-abbrev pub done : List ℕ → Answer
-done output = record { status = statuses.done; output = output }
+-- the answer to an input whose data part has faults
+abbrev pub faulty : List ModuleState → List ℕ → Answer
+faulty shelf lines = alone shelf statuses.faulty lines
 
--- What is run today: a data set without modules and statements, and a script for it.
-pub record IsRun (input : List ℕ) (plan : Plan) (steps : List ScriptStep) (script : List Lexeme) (end : TextEnd) : Type 0 where
-  pub no_module : plan.modules ≡ []
-  pub no_statement : plan.statements ≡ []
-  pub script_is : IsScript input (names_in plan Request) steps script end
+-- The answer to a script: the trace of its steps, and then the line of its fault, if it has one.
+abbrev pub script_answer : List ℕ → List ModuleState → List Piece → Option ScriptFault → Answer
+script_answer input shelf pieces None = record { status = statuses.done; pieces = pieces }
+script_answer input shelf pieces (Some fault) =
+    record { status = statuses.bad_script; pieces = pieces ++ record { text = script_fault_line input fault; shelf = left_by shelf pieces } ∷ [] }
 
--- What is answered to a data set and what stands behind its data part: the trace of the script, or that this is not run yet.
-pub data PlanAnswers (input : List ℕ) (plan : Plan) (script : List Lexeme) (end : TextEnd) : Answer → Type 0 where
-  a_trace : (steps : List ScriptStep) → IsRun input plan steps script end → PlanAnswers input plan script end (done (trace_of plan steps))
-  later : ((steps : List ScriptStep) → ¬ IsRun input plan steps script end) → PlanAnswers input plan script end (faulty later_line)
+-- What is answered to a data set and what stands behind its data part: what its script is, from the start of the interlocking with these modules.
+pub record PlanAnswers (input : List ℕ) (shelf : List ModuleState) (plan : Plan) (script : List Lexeme) (end : TextEnd) (answer : Answer) : Type 0 where
+  pub steps : List ScriptStep
+  pub fault : Option ScriptFault
+  pub script_is : IsScript plan input script end steps fault
+  pub answer_is : answer ≡ script_answer input shelf (steps_pieces steps (session_of plan shelf)) fault
 
 -- What is answered to an input whose data part spells a tree: the faults of its names, or what its data set is answered.
-pub data TreeAnswers (input : List ℕ) (tree : SourceText) (script : List Lexeme) (end : TextEnd) : Answer → Type 0 where
-  name_faults : faults_of input tree ≢ [] → TreeAnswers input tree script end (faulty (name_fault_lines input (faults_of input tree)))
-  a_plan : (answer : Answer) → faults_of input tree ≡ [] → PlanAnswers input (resolved input tree) script end answer → TreeAnswers input tree script end answer
+pub data TreeAnswers (input : List ℕ) (shelf : List ModuleState) (tree : SourceText) (script : List Lexeme) (end : TextEnd) : Answer → Type 0 where
+  name_faults : faults_of input tree ≢ [] → TreeAnswers input shelf tree script end (faulty shelf (name_fault_lines input (faults_of input tree)))
+  a_plan : (answer : Answer) → faults_of input tree ≡ [] → PlanAnswers input shelf (resolved input tree) script end answer → TreeAnswers input shelf tree script end answer
 
 -- What is answered to the tokens of an input: the first fault of its data part, or what its tree is answered.
-pub data TokenAnswers (input : List ℕ) (lexemes : List Lexeme) (end : TextEnd) : Answer → Type 0 where
-  no_token : (fault : LexFault) → StopsInside SourceText (SpellsSource deepest) lexemes end fault → TokenAnswers input lexemes end (faulty (lexical_line fault))
-  no_spelling : (place : Place) → FirstFault SourceText (SpellsSource deepest) (AtAnyDepth SourceText SpellsSource) ends_file lexemes end place → TokenAnswers input lexemes end (faulty (syntax_line place))
-  too_deep : (place : Place) → FirstTooDeep SourceText (SpellsSource deepest) (AtAnyDepth SourceText SpellsSource) ends_file lexemes place → TokenAnswers input lexemes end (faulty (depth_line place))
+pub data TokenAnswers (input : List ℕ) (shelf : List ModuleState) (lexemes : List Lexeme) (end : TextEnd) : Answer → Type 0 where
+  no_token : (fault : LexFault) → StopsInside SourceText (SpellsSource deepest) lexemes end fault → TokenAnswers input shelf lexemes end (faulty shelf (lexical_line fault))
+  no_spelling : (place : Place) → FirstFault SourceText (SpellsSource deepest) (AtAnyDepth SourceText SpellsSource) ends_file lexemes end place → TokenAnswers input shelf lexemes end (faulty shelf (syntax_line place))
+  too_deep : (place : Place) → FirstTooDeep SourceText (SpellsSource deepest) (AtAnyDepth SourceText SpellsSource) ends_file lexemes place → TokenAnswers input shelf lexemes end (faulty shelf (depth_line place))
   a_tree : (tree : SourceText) (script : List Lexeme) (answer : Answer) → Takes SourceText (SpellsSource deepest) ends_file lexemes end tree script
-      → TreeAnswers input tree script end answer → TokenAnswers input lexemes end answer
+      → TreeAnswers input shelf tree script end answer → TokenAnswers input shelf lexemes end answer
 
 -- what `run` answers to an input within the limit: what its tokens are answered
-pub record InputAnswers (input : List ℕ) (answer : Answer) : Type 0 where
+pub record InputAnswers (input : List ℕ) (shelf : List ModuleState) (answer : Answer) : Type 0 where
   pub lexemes : List Lexeme
   pub end : TextEnd
   pub tokens : AreTokens input 0 lexemes end
-  pub answered : TokenAnswers input lexemes end answer
+  pub answered : TokenAnswers input shelf lexemes end answer
 
 -- what `run` answers: a fault where the input is too large
-pub data RunAnswers (input : List ℕ) : Answer → Type 0 where
-  within : (answer : Answer) → length input ≤ input_limit → InputAnswers input answer → RunAnswers input answer
-  too_large : input_limit < length input → RunAnswers input (record { status = statuses.past_limit; output = too_large_line })
+pub data RunAnswers (input : List ℕ) (shelf : List ModuleState) : Answer → Type 0 where
+  within : (answer : Answer) → length input ≤ input_limit → InputAnswers input shelf answer → RunAnswers input shelf answer
+  too_large : input_limit < length input → RunAnswers input shelf (alone shelf statuses.past_limit too_large_line)
 
 -- what a command answers to its input; where the words have no shape, the usage line
-abbrev pub CommandAnswers : Option Command → List ℕ → Answer → Type 0
-CommandAnswers None input answer = answer ≡ record { status = statuses.no_shape; output = usage_line }
-CommandAnswers (Some Run) input answer = RunAnswers input answer
+abbrev pub CommandAnswers : Option Command → List ℕ → List ModuleState → Answer → Type 0
+CommandAnswers None input shelf answer = answer ≡ alone shelf statuses.no_shape usage_line
+CommandAnswers (Some Run) input shelf answer = RunAnswers input shelf answer
 
--- what the program answers to its words and its input
-abbrev pub Answers : List (List ℕ) → List ℕ → Answer → Type 0
-Answers words input answer = CommandAnswers (command_of words) input answer
+-- what the program answers to its words and its input, with these modules
+abbrev pub Answers : List (List ℕ) → List ℕ → List ModuleState → Answer → Type 0
+Answers words input shelf answer = CommandAnswers (command_of words) input shelf answer
 
 -- the status is that of an answer, and tells of no failure from outside
 pub record IsAnswered (status : ℕ) : Type 0 where
@@ -93,31 +97,32 @@ pub record IsAnswered (status : ℕ) : Type 0 where
 abbrev pub IsInput : Option (List ℕ) → List ℕ → Type 0
 IsInput left input = IfSome left (λ all. input ≡ all)
 
--- the status is the answer's, and its whole output was written
-pub record Gives (old new : Option (List ℕ)) (status : ℕ) (answer : Answer) : Type 0 where
+-- the status is the answer's, its whole output was written, and the modules are as its last piece leaves them
+pub record Gives (old new : Option (List ℕ)) (shelf left : List ModuleState) (status : ℕ) (answer : Answer) : Type 0 where
   pub same_status : status ≡ answer.status
-  pub appended : Appends old new answer.output
+  pub appended : Appends old new (text_of answer.pieces)
+  pub done : left ≡ left_by shelf answer.pieces
 
 -- the answer to some input that the source may have had was given
-pub record GivesAnswer (words : List (List ℕ)) (left old new : Option (List ℕ)) (status : ℕ) : Type 0 where
+pub record GivesAnswer (words : List (List ℕ)) (input_left old new : Option (List ℕ)) (shelf left : List ModuleState) (status : ℕ) : Type 0 where
   pub input : List ℕ
-  pub is_input : IsInput left input
+  pub is_input : IsInput input_left input
   pub answer : Answer
-  pub is_answer : Answers words input answer
-  pub gives : Gives old new status answer
+  pub is_answer : Answers words input shelf answer
+  pub gives : Gives old new shelf left status answer
 
--- a part of the answer's output was written, and not the whole
-pub record GivesPart (words : List (List ℕ)) (left old new : Option (List ℕ)) : Type 0 where
+-- Of the answer to such an input a part was written, and not the whole: it ends in some piece, and the modules are as they stand when that one is written.
+pub record GivesPart (words : List (List ℕ)) (input_left old new : Option (List ℕ)) (shelf left : List ModuleState) : Type 0 where
   pub input : List ℕ
-  pub is_input : IsInput left input
+  pub is_input : IsInput input_left input
   pub answer : Answer
-  pub is_answer : Answers words input answer
-  pub part : AppendsPart old new answer.output
+  pub is_answer : Answers words input shelf answer
+  pub part : StopsIn answer.pieces old new left
 
 -- there is an answer to all words and every input
 abbrev pub HasAnAnswer : Type 0
-HasAnAnswer = (words : List (List ℕ)) (input : List ℕ) → (answer : Answer) × Answers words input answer
+HasAnAnswer = (words : List (List ℕ)) (input : List ℕ) (shelf : List ModuleState) → (answer : Answer) × Answers words input shelf answer
 
 -- there is no second one
 abbrev pub HasOneAnswer : Type 0
-HasOneAnswer = (words : List (List ℕ)) (input : List ℕ) (a b : Answer) → Answers words input a → Answers words input b → a ≡ b
+HasOneAnswer = (words : List (List ℕ)) (input : List ℕ) (shelf : List ModuleState) (a b : Answer) → Answers words input shelf a → Answers words input shelf b → a ≡ b

@@ -1,12 +1,7 @@
 pub mod Statuses
+pub mod Stops
+pub mod Courses
 pub mod Answers
 pub mod Outcomes
 pub mod Words
-pub mod Traces
 pub mod FaultLines
-pub mod Refusals
-pub mod Findings
-pub mod Scripts
-pub mod ScriptReading
-pub mod StepRules
-pub mod WorkedChanges

@@ -4,10 +4,12 @@ use crate::command_line::command_words;
 use crate::output::end_output;
 use crate::program::ssi_program;
 use ssi_base::{MemSink, MemSource, StdSink};
+use ssi_trackside::{PointsModule, SignalModule, TrackModule, Trackside, is_shelf};
 use std::alloc::Global;
 use std::cell::Cell;
 use std::env::FillError;
 use std::io::{self, BufWriter, ErrorKind, Write};
+use std::process::Abort;
 use std::rt::Env;
 use std::test::Fail;
 
@@ -126,13 +128,33 @@ const LAYOUT: &[u8] =
 
 const TRACE: &[u8] = b"0 - - 0:Q1\n1 - - 0:Q2 L1:s\n2 - - 0:Q1 L2:s\n";
 
+/// A full shelf of fresh modules: for each address its points, its signal and its track.
+macro_rules! make_shelf {
+    ($alloc:expr) => {{
+        let mut shelf: Vec<Box<dyn Trackside>> = Vec::new($alloc);
+        for _address in 1..64 {
+            shelf.push(Box::new($alloc, PointsModule::new())?)?;
+            shelf.push(Box::new($alloc, SignalModule::new())?)?;
+            shelf.push(Box::new($alloc, TrackModule::new())?)?;
+        }
+        shelf
+    }};
+}
+
 /// The status that the program ends with over this writer.
-fn run_over(alloc: Global, capacity: usize, writer: &mut FailsOnce) -> Result<u8, Fail> {
+fn run_over(
+    rt: &impl Abort,
+    alloc: Global,
+    capacity: usize,
+    writer: &mut FailsOnce,
+) -> Result<u8, Fail> {
+    let mut shelf = make_shelf!(alloc);
+    assert!(rt; is_shelf(&shelf));
     let mut words = Vec::new(alloc);
     words.push(String::from_str(alloc, "run")?)?;
     let mut source = MemSource::new(LAYOUT.to_vec(alloc)?, 64, Vec::new(alloc));
     let mut sink = StdSink::new(BufWriter::with_capacity(alloc, capacity, writer)?);
-    let status = ssi_program(alloc, words.as_slice(), &mut source, &mut sink);
+    let status = ssi_program(alloc, words.as_slice(), &mut source, &mut sink, &mut shelf);
     let (_writer, status) = end_output(sink, status);
     Ok(status)
 }
@@ -151,12 +173,12 @@ fn nothing_goes_out_after_a_failure(rt: HostRuntime) -> Result<(), Fail> {
     let alloc = rt.alloc();
     for capacity in [0, 8, 8192] {
         let mut whole = fails_at(alloc, usize::MAX);
-        assert_eq!(rt; run_over(alloc, capacity, &mut whole)?, 0);
+        assert_eq!(rt; run_over(&rt, alloc, capacity, &mut whole)?, 0);
         assert_eq!(rt; whole.bytes.as_slice(), TRACE);
         for (call, stood) in whole.stood.iter().enumerate() {
             let mut writer = fails_at(alloc, call);
             assert_eq!(rt;
-                run_over(alloc, capacity, &mut writer)?,
+                run_over(&rt, alloc, capacity, &mut writer)?,
                 4,
                 "{capacity} {call}"
             );
@@ -180,17 +202,24 @@ const STORED_INPUT: &[u8] =
     b"file PTS\nfile SIG\nfile TCS\nfile RTE\nfile SUB\nfile FLG\nL1 .\nL2 .\nfile TFM\nfile PRR\nQ1 if L1 s then L2 s end .\nQ2 L1 s .\nfile PFM\nfile FOP\nfile OPT\nfile IPT\nfile RUN\npanel 0 Q1 . cycle 1 . panel 0 Q2 . panel 0 Q1 . cycle 2 .\n";
 
 /// The pieces in which the output is written.
-const STORED_OUTPUT: [&str; 26] = [
-    "0", " - - ", "0", ":", "Q1", "\n", "1", " - - ", "0", ":", "Q2", " ", "L1", ":", "s", "\n",
-    "2", " - - ", "0", ":", "Q1", " ", "L2", ":", "s", "\n",
+const STORED_OUTPUT: [&str; 32] = [
+    "0", " -", " -", " ", "0", ":", "Q1", "\n", "1", " -", " -", " ", "0", ":", "Q2", " ", "L1",
+    ":", "s", "\n", "2", " -", " -", " ", "0", ":", "Q1", " ", "L2", ":", "s", "\n",
 ];
 
 /// The status of the stored run over this source and sink.
-fn stored_run(alloc: Global, reads: Vec<u64>, sink: &mut MemSink) -> Result<u8, Fail> {
+fn stored_run(
+    rt: &impl Abort,
+    alloc: Global,
+    reads: Vec<u64>,
+    sink: &mut MemSink,
+) -> Result<u8, Fail> {
+    let mut shelf = make_shelf!(alloc);
+    assert!(rt; is_shelf(&shelf));
     let mut words = Vec::new(alloc);
     words.push(String::from_str(alloc, "run")?)?;
     let mut source = MemSource::new(STORED_INPUT.to_vec(alloc)?, 64, reads);
-    Ok(ssi_program(alloc, words.as_slice(), &mut source, sink))
+    Ok(ssi_program(alloc, words.as_slice(), &mut source, sink, &mut shelf))
 }
 
 #[test]
@@ -200,7 +229,7 @@ fn failing_source(rt: HostRuntime) -> Result<(), Fail> {
     let cases = [(0, 3), (1, 3), (2, 3), (3, 3), (4, 3), (5, 0)];
     for (call, expected) in cases {
         let mut sink = MemSink::new(alloc, 100, 100, Vec::new(alloc))?;
-        let status = stored_run(alloc, vec![in alloc; call]?, &mut sink)?;
+        let status = stored_run(&rt, alloc, vec![in alloc; call]?, &mut sink)?;
         assert_eq!(rt; status, expected, "{call}");
         let whole = if expected == 0 { TRACE } else { b"" };
         assert_eq!(rt; sink.written(), whole, "{call}");
@@ -214,14 +243,14 @@ fn failing_sink(rt: HostRuntime) -> Result<(), Fail> {
     let mut before = Vec::new(alloc);
     for (call, piece) in STORED_OUTPUT.iter().enumerate() {
         let mut sink = MemSink::new(alloc, 100, 100, vec![in alloc; call as u64]?)?;
-        let status = stored_run(alloc, Vec::new(alloc), &mut sink)?;
+        let status = stored_run(&rt, alloc, Vec::new(alloc), &mut sink)?;
         assert_eq!(rt; status, 4, "{call}");
         assert_eq!(rt; sink.written(), before.as_slice(), "{call}");
         before.extend_from_slice(piece.as_bytes())?;
     }
     // A call past the last piece isn't made, so its failure is none.
-    let mut sink = MemSink::new(alloc, 100, 100, vec![in alloc; 26]?)?;
-    assert_eq!(rt; stored_run(alloc, Vec::new(alloc), &mut sink)?, 0);
+    let mut sink = MemSink::new(alloc, 100, 100, vec![in alloc; 32]?)?;
+    assert_eq!(rt; stored_run(&rt, alloc, Vec::new(alloc), &mut sink)?, 0);
     assert_eq!(rt; sink.written(), TRACE);
     assert_eq!(rt; before.as_slice(), TRACE);
     Ok(())

@@ -1,91 +1,95 @@
 //! An input within the limit: its data part is read, resolved and compiled, and its script is run.
 
-ghost use Rattle.std.specs.Prelude.{◌≡◌, ◌≢◌, ◌≤◌, All, List, Ok, Err, length, IfOk};
+ghost use Rattle.std.specs.Prelude.{◌≡◌, ◌≢◌, ◌≤◌, All, Ok, length, IfOk, map};
+ghost use Rattle.ssi_cycle.specs.Cores.{core_of};
 ghost use Rattle.ssi_identities.specs.Wells.{IsWell};
 ghost use Rattle.ssi_names.specs.Spelled.{IsSpelledIn};
-ghost use Rattle.ssi_run.specs.declared.script.ScriptStep.{ScriptStep as Step};
-ghost use Rattle.ssi_run.specs.Scripts.{IsStepOf};
-ghost use Rattle.ssi_run.specs.Statuses.{input_limit};
-ghost use Rattle.ssi_run.specs.Traces.{cycles_in, trace_of};
-ghost use Rattle.ssi_run.specs.Answers.{InputAnswers, IsRun, PlanAnswers, TreeAnswers, done};
+ghost use Rattle.ssi_script.specs.Meanings.{IsStepOf, cycles_in, most_cycles};
+ghost use Rattle.ssi_script.specs.Scripts.{IsScript};
+ghost use Rattle.ssi_script.specs.Sessions.{session_of};
+ghost use Rattle.ssi_script.specs.Traces.{steps_pieces};
+ghost use Rattle.ssi_run.specs.Answers.{InputAnswers, PlanAnswers, TreeAnswers, script_answer};
 ghost use Rattle.ssi_run.specs.Outcomes.{Replies};
+ghost use Rattle.ssi_run.specs.Statuses.{input_limit};
 
 use crate::fault_lines::{
-    write_depth_fault, write_lexical_fault, write_name_faults, write_syntax_fault,
+    write_depth_fault, write_lexical_fault, write_name_faults, write_script_fault,
+    write_syntax_fault,
 };
-use crate::refusal::Refusal;
-use crate::script::{ScriptStep, read_script};
+use crate::session::write_steps;
 use crate::status::{Status, told};
-use crate::trace::write_steps;
-use ssi_base::{Failed, Sink, write_all};
+use ssi_base::{Failed, OutOfMemory, Sink};
 use ssi_compiler::compile;
 use ssi_cycle::Interlocking;
 use ssi_identities::DataSet;
 use ssi_image::Image;
 use ssi_lexer::Tokens;
 use ssi_names::{ResolveFault, SourceTree, read_source, resolve};
+use ssi_script::{ScriptList, read_script};
 use ssi_terms::ReadFault;
+use ssi_trackside::Trackside;
 use std::alloc::Global;
 use std::mem::forget;
 
-/// What is written where the input isn't of the form that is built so far.
-const FAULT_LATER: &[u8] = b"fault later\n";
-
-/// Does the steps of a script and writes their trace. All memory is taken before the first line.
+/// Does the steps of a script, and writes their trace and the line of the fault behind them, if there is one.
 fn run_steps<K: Sink>(
+    input: &[u8],
+    script: &ScriptList,
+    core: &mut Interlocking,
+    sink: &mut K,
+    shelf: &mut Vec<Box<dyn Trackside>>,
+) -> Result<Status, Failed>
+    requires begun { core.old ≡ core_of core.old.plan }
+    requires full { length (map state shelf.old.items) ≡ 189 }
+    requires can { All (IsStepOf core.old.plan) script.now.steps.items }
+    requires within { cycles_in script.now.steps.items ≤ most_cycles }
+    ensures answered { let states = map state shelf.old.items in
+        let pieces = steps_pieces script.now.steps.items (session_of core.old.plan states) in
+        Replies (λ answer. answer ≡ script_answer input.now states pieces script.now.fault)
+        (K.written sink.old) (K.written sink.new) (K.faults sink.old) (K.faults sink.new) states (map state shelf.new.items) result }
+    ensures memory { result ≢ Ok Status.NoMemory }
+{
+    write_steps(sink, core, shelf, script.steps.as_slice())?;
+    match script.fault {
+        None => Ok(Status::Done),
+        Some(fault) => told(write_script_fault(sink, input, fault), Status::BadScript),
+    }
+}
+
+/// The script behind the data part. The names of the layout are let go once it is read.
+fn script_of(alloc: Global, image: &Image, tokens: Tokens<'_>) -> Result<ScriptList, OutOfMemory>
+    ensures script { IfOk result (λ script. IsScript image.now tokens.entry.text tokens.entry.left tokens.entry.end script.steps.items script.fault) }
+    ensures can { IfOk result (λ script. All (IsStepOf image.now) script.steps.items) }
+    ensures within { IfOk result (λ script. cycles_in script.steps.items ≤ most_cycles) }
+{
+    let names = image.names(alloc)?;
+    read_script(alloc, tokens, &names, image)
+}
+
+/// Answers the image of a layout and what stands behind the data part. All memory is taken before the first byte.
+fn run_image<K: Sink>(
     alloc: Global,
     image: Image,
-    steps: &[ScriptStep],
+    tokens: Tokens<'_>,
     sink: &mut K,
+    shelf: &mut Vec<Box<dyn Trackside>>,
 ) -> Result<Status, Failed>
-    requires cycles { cycles_in steps.now ≤ 1000000 }
-    requires can { All (IsStepOf (length image.requests)) steps.now }
-    ensures answered { result ≢ Ok Status.NoMemory → Replies (λ answer. answer ≡ done (trace_of image steps.now))
-        (K.written sink.old) (K.written sink.new) (K.faults sink.old) (K.faults sink.new) result }
-    ensures nothing { result ≡ Ok Status.NoMemory → sink.new ≡ sink.old }
+    requires full { length (map state shelf.old.items) ≡ 189 }
+    ensures answered { result ≢ Ok Status.NoMemory →
+        Replies (PlanAnswers tokens.entry.text (map state shelf.old.items) image tokens.entry.left tokens.entry.end)
+        (K.written sink.old) (K.written sink.new) (K.faults sink.old) (K.faults sink.new)
+        (map state shelf.old.items) (map state shelf.new.items) result }
+    ensures nothing { result ≡ Ok Status.NoMemory →
+        (sink.new ≡ sink.old) × (map state shelf.new.items ≡ map state shelf.old.items) }
 {
+    let input = tokens.text();
+    let Ok(script) = script_of(alloc, &image, tokens) else {
+        return Ok(Status::NoMemory);
+    };
     let Ok(mut core) = Interlocking::begin(alloc, image) else {
         return Ok(Status::NoMemory);
     };
-    let written = write_steps(sink, &mut core, steps);
-    told(written, Status::Done)
-}
-
-/// The steps of the script behind the data part, where this is run today. `Later` says that it isn't.
-fn read_run(
-    alloc: Global,
-    input: &[u8],
-    image: &Image,
-    tokens: &mut Tokens<'_>,
-) -> Result<Vec<ScriptStep>, Refusal>
-    ensures found { IfOk result (λ steps. IsRun input.now image.now steps.items tokens.old.left tokens.old.end) }
-    ensures later { result ≡ Err Refusal.Later → (steps : List Step)
-        → ¬ IsRun input.now image.now steps tokens.old.left tokens.old.end }
-{
-    if image.module_count() > 0 || image.statement_count() > 0 {
-        return Err(Refusal::Later);
-    }
-    let names = image.names(alloc)?;
-    read_script(alloc, input, tokens, &names)
-}
-
-/// Answers the image of a layout and what stands behind the data part.
-fn run_image<K: Sink>(
-    alloc: Global,
-    input: &[u8],
-    image: Image,
-    tokens: &mut Tokens<'_>,
-    sink: &mut K,
-) -> Result<Status, Failed>
-    ensures answered { result ≢ Ok Status.NoMemory → Replies (PlanAnswers input.now image tokens.old.left tokens.old.end)
-        (K.written sink.old) (K.written sink.new) (K.faults sink.old) (K.faults sink.new) result }
-    ensures nothing { result ≡ Ok Status.NoMemory → sink.new ≡ sink.old }
-{
-    match read_run(alloc, input, &image, tokens) {
-        Ok(steps) => run_steps(alloc, image, steps.as_slice(), sink),
-        Err(Refusal::Later) => told(write_all(sink, FAULT_LATER), Status::Faulty),
-        Err(Refusal::Memory) => Ok(Status::NoMemory),
-    }
+    run_steps(input, &script, &mut core, sink, shelf)
 }
 
 /// Answers a data set and what stands behind the data part. Its image is made before the first byte.
@@ -94,42 +98,51 @@ fn run_image<K: Sink>(
 /// pieces, and their memory goes back with the process.
 fn run_plan<K: Sink>(
     alloc: Global,
-    input: &[u8],
     plan: DataSet,
-    tokens: &mut Tokens<'_>,
+    tokens: Tokens<'_>,
     sink: &mut K,
+    shelf: &mut Vec<Box<dyn Trackside>>,
 ) -> Result<Status, Failed>
-    requires { IsWell plan }
-    ensures answered { result ≢ Ok Status.NoMemory → Replies (PlanAnswers input.now plan tokens.old.left tokens.old.end)
-        (K.written sink.old) (K.written sink.new) (K.faults sink.old) (K.faults sink.new) result }
-    ensures nothing { result ≡ Ok Status.NoMemory → sink.new ≡ sink.old }
+    requires well { IsWell plan }
+    requires full { length (map state shelf.old.items) ≡ 189 }
+    ensures answered { result ≢ Ok Status.NoMemory →
+        Replies (PlanAnswers tokens.entry.text (map state shelf.old.items) plan tokens.entry.left tokens.entry.end)
+        (K.written sink.old) (K.written sink.new) (K.faults sink.old) (K.faults sink.new)
+        (map state shelf.old.items) (map state shelf.new.items) result }
+    ensures nothing { result ≡ Ok Status.NoMemory →
+        (sink.new ≡ sink.old) × (map state shelf.new.items ≡ map state shelf.old.items) }
 {
     let packed = compile(alloc, &plan);
     forget(plan);
     let Ok(image) = packed else {
         return Ok(Status::NoMemory);
     };
-    run_image(alloc, input, image, tokens, sink)
+    run_image(alloc, image, tokens, sink, shelf)
 }
 
 /// Answers the tree of a data part and what stands behind it.
 fn run_tree<K: Sink>(
     alloc: Global,
-    input: &[u8],
     tree: SourceTree,
-    tokens: &mut Tokens<'_>,
+    tokens: Tokens<'_>,
     sink: &mut K,
+    shelf: &mut Vec<Box<dyn Trackside>>,
 ) -> Result<Status, Failed>
-    requires short { length input.now ≤ input_limit }
-    requires spelled { IsSpelledIn input.now tree }
-    ensures answered { result ≢ Ok Status.NoMemory → Replies (TreeAnswers input.now tree tokens.old.left tokens.old.end)
-        (K.written sink.old) (K.written sink.new) (K.faults sink.old) (K.faults sink.new) result }
-    ensures nothing { result ≡ Ok Status.NoMemory → sink.new ≡ sink.old }
+    requires short { length tokens.text ≤ input_limit }
+    requires spelled { IsSpelledIn tokens.text tree }
+    requires full { length (map state shelf.old.items) ≡ 189 }
+    ensures answered { result ≢ Ok Status.NoMemory →
+        Replies (TreeAnswers tokens.entry.text (map state shelf.old.items) tree tokens.entry.left tokens.entry.end)
+        (K.written sink.old) (K.written sink.new) (K.faults sink.old) (K.faults sink.new)
+        (map state shelf.old.items) (map state shelf.new.items) result }
+    ensures nothing { result ≡ Ok Status.NoMemory →
+        (sink.new ≡ sink.old) × (map state shelf.new.items ≡ map state shelf.old.items) }
 {
+    let input = tokens.text();
     let resolved = resolve(alloc, input, &tree);
     forget(tree);
     match resolved {
-        Ok(plan) => run_plan(alloc, input, plan, tokens, sink),
+        Ok(plan) => run_plan(alloc, plan, tokens, sink, shelf),
         Err(ResolveFault::Faults(faults)) => {
             let written = write_name_faults(sink, input, faults.items.as_slice());
             told(written, Status::Faulty)
@@ -139,15 +152,23 @@ fn run_tree<K: Sink>(
 }
 
 /// Answers an input within the limit: the faults of its data part, or what its data set is answered.
-pub fn run_input<K: Sink>(alloc: Global, input: &[u8], sink: &mut K) -> Result<Status, Failed>
-    requires { length input.now ≤ input_limit }
-    ensures answered { result ≢ Ok Status.NoMemory → Replies (InputAnswers input.now)
-        (K.written sink.old) (K.written sink.new) (K.faults sink.old) (K.faults sink.new) result }
-    ensures nothing { result ≡ Ok Status.NoMemory → sink.new ≡ sink.old }
+pub fn run_input<K: Sink>(
+    alloc: Global,
+    input: &[u8],
+    sink: &mut K,
+    shelf: &mut Vec<Box<dyn Trackside>>,
+) -> Result<Status, Failed>
+    requires short { length input.now ≤ input_limit }
+    requires full { length (map state shelf.old.items) ≡ 189 }
+    ensures answered { result ≢ Ok Status.NoMemory → Replies (InputAnswers input.now (map state shelf.old.items))
+        (K.written sink.old) (K.written sink.new) (K.faults sink.old) (K.faults sink.new)
+        (map state shelf.old.items) (map state shelf.new.items) result }
+    ensures nothing { result ≡ Ok Status.NoMemory →
+        (sink.new ≡ sink.old) × (map state shelf.new.items ≡ map state shelf.old.items) }
 {
     let mut tokens = Tokens::new(input, 0);
     match read_source(alloc, &mut tokens) {
-        Ok(tree) => run_tree(alloc, input, tree, &mut tokens, sink),
+        Ok(tree) => run_tree(alloc, tree, tokens, sink, shelf),
         Err(ReadFault::Lex(fault)) => told(write_lexical_fault(sink, fault), Status::Faulty),
         Err(ReadFault::Syntax(place)) => told(write_syntax_fault(sink, place), Status::Faulty),
         Err(ReadFault::TooDeep(place)) => told(write_depth_fault(sink, place), Status::Faulty),

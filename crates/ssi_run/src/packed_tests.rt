@@ -1,11 +1,13 @@
-//! Packed rules of layouts that are read from text: what a request does to a state.
+//! Packed rules of layouts that are read from text: what a request does to a state, and a line that is made of a minor cycle.
 
 use ssi_compiler::compile;
+use ssi_cycle::Interlocking;
 use ssi_eval::run_body;
 use ssi_identities::fact_count;
 use ssi_image::{BodyAt, Image};
 use ssi_lexer::Tokens;
 use ssi_names::{ResolveFault, read_source, resolve};
+use ssi_script::cycle_line;
 use ssi_state::State;
 use std::alloc::Global;
 use std::process::Abort;
@@ -128,5 +130,23 @@ fn deepest_groups_choices_and_points(rt: HostRuntime) -> Result<(), Fail> {
         let found = true_after(&rt, alloc, &image, made)?;
         assert_eq!(rt; found.as_slice(), facts);
     }
+    Ok(())
+}
+
+#[test]
+fn a_line_is_made_in_memory(rt: HostRuntime) -> Result<(), Fail> {
+    let alloc = rt.alloc();
+    let image = image_of(&rt, alloc, JUNCTION)?;
+    let mut core = Interlocking::begin(alloc, image)?;
+    assert!(rt; core.image().counts().requests > 0);
+    assert!(rt; core.put(0, 0).is_ok());
+    let did = core.minor_cycle(None);
+    let out = Some([0x81, 0x01, 0xFE, 0x7E]);
+    let arrived = Some([0x41, 0x05, 0xFA, 0xBE]);
+    let line = cycle_line(alloc, 7, out, arrived, &did, &core)?;
+    assert_eq!(rt; line.as_slice(), b"7 8101FE7E 4105FABE 0:Q1\n".as_slice());
+    let did = core.minor_cycle(None);
+    let line = cycle_line(alloc, 18_446_744_073_709_551_615, None, None, &did, &core)?;
+    assert_eq!(rt; line.as_slice(), b"18446744073709551615 - - -\n".as_slice());
     Ok(())
 }

@@ -11,7 +11,7 @@ use ssi_base::Failed;
 pub enum Status {
     /// All done, the input read to its end.
     Done,
-    /// The input has faults, or isn't of the form that is built so far.
+    /// The data part has faults.
     Faulty,
     /// The words have no known shape; nothing was read.
     NoShape,
@@ -19,6 +19,8 @@ pub enum Status {
     SourceFault,
     /// Writing failed; a part of the output was written.
     SinkFault,
+    /// A step of the script has a fault; the trace up to it was written.
+    BadScript,
     /// Memory ran out; nothing was written.
     NoMemory,
     /// The input has more than 2,097,152 bytes.
@@ -36,6 +38,7 @@ impl Status {
             Status::NoShape => 2,
             Status::SourceFault => 3,
             Status::SinkFault => 4,
+            Status::BadScript => 7,
             Status::NoMemory => 8,
             Status::PastLimit => 9,
         }

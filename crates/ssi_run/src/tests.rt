@@ -1,8 +1,11 @@
 //! The program over memory: layouts and scripts with the output that the rules give, worked by hand.
 
 use crate::program::ssi_program;
+use crate::whole_runs::{answer, expect_rows, make_shelf, run};
 use ssi_base::{MemSink, MemSource};
+use ssi_trackside::{PointsModule, SignalModule, TrackModule, Trackside, is_shelf};
 use std::alloc::Global;
+use std::process::Abort;
 use std::test::Fail;
 
 /// A layout without an entry.
@@ -16,9 +19,6 @@ const FLAGS: &str =
 /// What is written where the words have no known shape.
 const USAGE: &[u8] = b"usage: ssi check | compile | run [--last n] | exec | yard n\n";
 
-/// What is written for a script or a layout that isn't run yet.
-const LATER: &[u8] = b"fault later\n";
-
 /// What is written for an input past the limit.
 const TOO_LARGE: &[u8] = b"fault input more than 2097152 bytes\n";
 
@@ -29,56 +29,108 @@ fn layout_with(alloc: Global, body: &str) -> Result<String, Fail> {
     )?)
 }
 
-/// The status that the words end with over this input, and what is written.
-fn answer(alloc: Global, words: &[&str], input: Vec<u8>) -> Result<(u8, Vec<u8>), Fail> {
-    let mut line = Vec::new(alloc);
-    for word in words {
-        line.push(String::from_str(alloc, word)?)?;
-    }
-    let mut source = MemSource::new(input, 65_536, Vec::new(alloc));
-    let mut sink = MemSink::new(alloc, 16_000_000, 4096, Vec::new(alloc))?;
-    let status = ssi_program(alloc, line.as_slice(), &mut source, &mut sink);
-    Ok((status, Vec::from_slice(alloc, sink.written())?))
-}
-
-/// The answer of `run` to a layout and a script.
-fn run(alloc: Global, layout: &str, script: &str) -> Result<(u8, Vec<u8>), Fail> {
-    let input = format!(in alloc; "{layout}{script}")?;
-    answer(alloc, &["run"], Vec::from_slice(alloc, input.as_bytes())?)
-}
-
 #[test]
 fn scripts_over_layouts(rt: HostRuntime) -> Result<(), Fail> {
-    let cases = [
+    let stated =
+        "file PTS file SIG file TCS file RTE file SUB file FLG L1 . file TFM file PRR file PFM file FOP L1 s if L1 xs . file OPT file IPT ";
+    let rows = [
         // Nothing waits, so nothing changes.
-        (EMPTY, "file RUN cycle 1 .", "0 - - -\n"),
+        (EMPTY, "file RUN cycle 1 .", 0, "0 - - -\n"),
         // A script with no step gives no line.
-        (EMPTY, "file RUN", ""),
+        (EMPTY, "file RUN", 0, ""),
         // Requests set flags in turn; the first guard is false.
         (
             FLAGS,
             "file RUN panel 0 Q1 . cycle 1 . panel 0 Q2 . panel 0 Q1 . cycle 2 .",
+            0,
             "0 - - 0:Q1\n1 - - 0:Q2 L1:s\n2 - - 0:Q1 L2:s\n",
         ),
         // Requests are taken in the order of their puts, one in each minor cycle.
         (
             FLAGS,
             "file RUN panel 0 Q2 . panel 0 Q1 . cycle 3 .",
+            0,
             "0 - - 0:Q2 L1:s\n1 - - 0:Q1 L2:s\n2 - - -\n",
         ),
         // Separators and comments of all kinds, and marks with no space around them.
         (
             FLAGS,
             "\tfile\r\nRUN/cycle 9 .\npanel 0 Q2./ caf\u{e9} ,\ncycle 1./",
+            0,
             "0 - - 0:Q2 L1:s\n",
         ),
+        // A statement acts in its slot, once its guard holds.
+        (stated, "file RUN cycle 2 .", 0, "0 - - - L1:s\n1 - - -\n"),
     ];
-    for (layout, script, output) in cases {
-        let (status, written) = run(rt.alloc(), layout, script)?;
-        assert_eq!(rt; status, 0, "{script}");
-        assert_eq!(rt; written.as_slice(), output.as_bytes(), "{script}");
-    }
-    Ok(())
+    expect_rows(&rt, rt.alloc(), &rows)
+}
+
+/// A track that the module at address 1 reports.
+const ONE_TRACK: &str =
+    "file PTS\nfile SIG\nfile TCS\nT1 .\nfile RTE\nfile SUB\nfile FLG\nfile TFM\n1 track T1 at 0 .\nfile PRR\nfile PFM\nfile FOP\nfile OPT\nfile IPT\n1 if 0 h then T1 c else T1 o end .\n";
+
+#[test]
+fn scripts_drive_a_module(rt: HostRuntime) -> Result<(), Fail> {
+    let rows = [
+        // Its report clears the track, which is occupied at the start.
+        (
+            ONE_TRACK,
+            "file RUN cycle 2 .",
+            0,
+            "0 - - -\n1 8100FF7E 41FF00BE - T1:c\n",
+        ),
+        (
+            ONE_TRACK,
+            "file RUN occupy T1 . cycle 2 .",
+            0,
+            "0 - - -\n1 8100FF7E 41FE01BE -\n",
+        ),
+        (
+            ONE_TRACK,
+            "file RUN occupy T1 . cycle 1 . clear T1 . cycle 1 .",
+            0,
+            "0 - - -\n1 8100FF7E 41FF00BE - T1:c\n",
+        ),
+        // No report arrives, or another telegram in its place.
+        (
+            ONE_TRACK,
+            "file RUN lose 1 . cycle 2 .",
+            0,
+            "0 - - -\n1 8100FF7E - -\n",
+        ),
+        (
+            ONE_TRACK,
+            "file RUN drop 1 . cycle 2 .",
+            0,
+            "0 - - -\n1 8100FF7E - -\n",
+        ),
+        (
+            ONE_TRACK,
+            "file RUN dead 1 . cycle 2 .",
+            0,
+            "0 - - -\n1 8100FF7E - -\n",
+        ),
+        (
+            ONE_TRACK,
+            "file RUN dead 1 . live 1 . cycle 2 .",
+            0,
+            "0 - - -\n1 8100FF7E 41FF00BE - T1:c\n",
+        ),
+        (
+            ONE_TRACK,
+            "file RUN raw 1 1 2 3 255 . cycle 2 .",
+            0,
+            "0 - - -\n1 8100FF7E 010203FF -\n",
+        ),
+        // The mark that an address has last counts.
+        (
+            ONE_TRACK,
+            "file RUN lose 1 . raw 1 65 255 0 190 . cycle 2 .",
+            0,
+            "0 - - -\n1 8100FF7E 41FF00BE - T1:c\n",
+        ),
+    ];
+    expect_rows(&rt, rt.alloc(), &rows)
 }
 
 #[test]
@@ -103,12 +155,11 @@ fn bodies_act_item_by_item(rt: HostRuntime) -> Result<(), Fail> {
         // A flag that changes and changes back isn't shown.
         ("L1 s, L2 s, L1 xs", "0 - - 0:Q1 L2:s\n1 - - 0:Q1\n"),
     ];
+    let alloc = rt.alloc();
     for (body, output) in cases {
-        let layout = layout_with(rt.alloc(), body)?;
+        let layout = layout_with(alloc, body)?;
         let script = "file RUN panel 0 Q1 . panel 0 Q1 . cycle 2 .";
-        let (status, written) = run(rt.alloc(), layout.as_str(), script)?;
-        assert_eq!(rt; status, 0, "{body}");
-        assert_eq!(rt; written.as_slice(), output.as_bytes(), "{body}");
+        expect_rows(&rt, alloc, &[(layout.as_str(), script, 0, output)])?;
     }
     Ok(())
 }
@@ -183,55 +234,77 @@ fn every_fault_of_a_layout_is_listed(rt: HostRuntime) -> Result<(), Fail> {
         ("", "fault 1:1 S1\n"),
     ];
     for (layout, output) in cases {
-        let (status, written) = run(alloc, layout, "")?;
-        assert_eq!(rt; status, 1, "{layout}");
-        assert_eq!(rt; written.as_slice(), output.as_bytes(), "{layout}");
+        expect_rows(&rt, alloc, &[(layout, "", 1, output)])?;
     }
     Ok(())
 }
 
 #[test]
-fn other_scripts_are_told_later(rt: HostRuntime) -> Result<(), Fail> {
-    let alloc = rt.alloc();
-    let wired =
-        "file PTS file SIG file TCS T1 . file RTE file SUB file FLG file TFM 5 track T1 at 0 . file PRR file PFM file FOP file OPT file IPT ";
-    let stated =
-        "file PTS file SIG file TCS file RTE file SUB file FLG L1 . file TFM file PRR file PFM file FOP L1 s if L1 xs . file OPT file IPT ";
-    let junction = junction_with(alloc, "U1 on T2 with P1 cr .")?;
-    let cases = [
-        (FLAGS, "file RUN panel 1 Q1 ."),
-        (FLAGS, "file RUN panel 0 Q3 ."),
-        (FLAGS, "file RUN panel 0 L1 ."),
-        (FLAGS, "file RUN cycle 0 ."),
-        (FLAGS, "file RUN cycle 01 ."),
-        (FLAGS, "file RUN cycle 12345678 ."),
-        (FLAGS, "file RUN cycle 1"),
-        (FLAGS, "file RUN cycle 1 . \u{e9}"),
-        (FLAGS, "file RUM cycle 1 ."),
-        (FLAGS, ""),
-        // A layout with a module or with a statement isn't run yet.
-        (wired, "file RUN cycle 1 ."),
-        (stated, "file RUN cycle 1 ."),
-        (junction.as_str(), "file RUN cycle 1 ."),
+fn fault_of_a_script_ends_the_output(rt: HostRuntime) -> Result<(), Fail> {
+    let rows = [
+        // No step is spelled so.
+        (FLAGS, "file RUN panel 1 Q1 .", 7, "fault 17:16 R1\n"),
+        (FLAGS, "file RUN panel 0 .", 7, "fault 17:18 R1\n"),
+        (FLAGS, "file RUN cycle 0 .", 7, "fault 17:16 R1\n"),
+        (FLAGS, "file RUN cycle 01 .", 7, "fault 17:16 R1\n"),
+        (FLAGS, "file RUN cycle 12345678 .", 7, "fault 17:16 R1\n"),
+        (FLAGS, "file RUN wait 1 .", 7, "fault 17:10 R1\n"),
+        (FLAGS, "file RUN raw 1 0 0 0 256 .", 7, "fault 17:22 R1\n"),
+        // More is needed at the end of the text.
+        (FLAGS, "file RUN cycle 1", 7, "fault 17:17 R1\n"),
+        (
+            FLAGS,
+            "file RUN panel 0 Q1 . cycle 1\n",
+            7,
+            "fault 18:1 R1\n",
+        ),
+        // The text goes on with no token.
+        (
+            FLAGS,
+            "file RUN cycle 1 . \u{e9}",
+            7,
+            "0 - - -\nfault 17:20 R1\n",
+        ),
+        (FLAGS, "file RUN cycle \u{e9}", 7, "fault 17:16 R1\n"),
+        // There is no script.
+        (FLAGS, "file RUM cycle 1 .", 7, "fault 17:6 R1\n"),
+        (FLAGS, "file", 7, "fault 17:5 R1\n"),
+        (FLAGS, "", 7, "fault 17:1 R1\n"),
+        // A name that isn't declared, one of another kind, and addresses without a module.
+        (FLAGS, "file RUN panel 0 Q9 .", 7, "fault 17:18 R2 Q9\n"),
+        (FLAGS, "file RUN panel 0 L1 .", 7, "fault 17:18 R3 L1\n"),
+        (FLAGS, "file RUN dead 1 .", 7, "fault 17:15 R2 1\n"),
+        (ONE_TRACK, "file RUN dead 2 .", 7, "fault 16:15 R2 2\n"),
+        (ONE_TRACK, "file RUN occupy T2 .", 7, "fault 16:17 R2 T2\n"),
+        (ONE_TRACK, "file RUN fail T1 .", 7, "fault 16:15 R3 T1\n"),
+        // More minor cycles than a script may make.
+        (
+            FLAGS,
+            "file RUN cycle 1000001 .",
+            7,
+            "fault 17:16 R4 1000001\n",
+        ),
+        // The steps before the fault are done, and none behind it.
+        (
+            FLAGS,
+            "file RUN panel 0 Q2 . cycle 1 . panel 0 Q9 . cycle 1 .",
+            7,
+            "0 - - 0:Q2 L1:s\nfault 17:41 R2 Q9\n",
+        ),
     ];
-    for (layout, script) in cases {
-        let (status, written) = run(alloc, layout, script)?;
-        assert_eq!(rt; status, 1, "{layout}{script}");
-        assert_eq!(rt; written.as_slice(), LATER, "{layout}{script}");
-    }
-    Ok(())
+    expect_rows(&rt, rt.alloc(), &rows)
 }
 
 #[test]
 fn longest_name_and_deepest_group(rt: HostRuntime) -> Result<(), Fail> {
-    let longest = layout_of_flag(rt.alloc(), "LAAAAAAAAAAAAAAA")?;
-    let deepest = layout_of_groups(rt.alloc(), "((((((((")?;
-    for layout in [longest, deepest] {
-        let (status, written) = run(rt.alloc(), layout.as_str(), "file RUN cycle 1 .")?;
-        assert_eq!(rt; status, 0, "{layout}");
-        assert_eq!(rt; written.as_slice(), b"0 - - -\n".as_slice(), "{layout}");
-    }
-    Ok(())
+    let alloc = rt.alloc();
+    let longest = layout_of_flag(alloc, "LAAAAAAAAAAAAAAA")?;
+    let deepest = layout_of_groups(alloc, "((((((((")?;
+    let rows = [
+        (longest.as_str(), "file RUN cycle 1 .", 0, "0 - - -\n"),
+        (deepest.as_str(), "file RUN cycle 1 .", 0, "0 - - -\n"),
+    ];
+    expect_rows(&rt, alloc, &rows)
 }
 
 /// A layout of so many flags and so many requests, each of which sets the first flag.
@@ -256,36 +329,29 @@ fn flags_and_requests_at_their_limits(rt: HostRuntime) -> Result<(), Fail> {
     let alloc = rt.alloc();
     let script = "file RUN panel 0 Q0 . cycle 1 .";
     let cases = [
-        (512, 1024, 0, b"0 - - 0:Q0 L0:s\n".as_slice()),
-        (513, 1, 1, b"fault 1:3529 N11 L512\n".as_slice()),
-        (1, 1025, 1, b"fault 1:12280 N11 Q1024\n".as_slice()),
+        (512, 1024, 0, "0 - - 0:Q0 L0:s\n"),
+        (513, 1, 1, "fault 1:3529 N11 L512\n"),
+        (1, 1025, 1, "fault 1:12280 N11 Q1024\n"),
     ];
-    for (flags, requests, expected, output) in cases {
+    for (flags, requests, status, output) in cases {
         let layout = layout_of(alloc, flags, requests)?;
-        let (status, written) = run(alloc, layout.as_str(), script)?;
-        assert_eq!(rt; status, expected, "{flags} {requests}");
-        assert_eq!(rt; written.as_slice(), output, "{flags} {requests}");
+        expect_rows(&rt, alloc, &[(layout.as_str(), script, status, output)])?;
     }
     Ok(())
 }
 
 #[test]
 fn a_million_minor_cycles_at_most(rt: HostRuntime) -> Result<(), Fail> {
+    let alloc = rt.alloc();
+    let mut shelf = make_shelf!(alloc);
+    let script = "file RUN cycle 999999 . cycle 1 .";
+    let (status, written) = run(&rt, alloc, EMPTY, script, &mut shelf)?;
+    assert_eq!(rt; status, 0);
     // A line has the digits of its number and seven bytes more.
-    let cases = [
-        (
-            "file RUN cycle 999999 . cycle 1 .",
-            0,
-            5_888_890 + 7_000_000,
-        ),
-        ("file RUN cycle 999999 . cycle 2 .", 1, 12),
-    ];
-    for (script, expected, bytes) in cases {
-        let (status, written) = run(rt.alloc(), EMPTY, script)?;
-        assert_eq!(rt; status, expected, "{script}");
-        assert_eq!(rt; written.len(), bytes, "{script}");
-    }
-    Ok(())
+    assert_eq!(rt; written.len(), 5_888_890 + 7_000_000);
+    let script = "file RUN cycle 1 . cycle 1000000 .";
+    let output = "0 - - -\nfault 13:26 R4 1000000\n";
+    expect_rows(&rt, alloc, &[(EMPTY, script, 7, output)])
 }
 
 #[test]
@@ -295,38 +361,42 @@ fn sixty_four_requests_wait(rt: HostRuntime) -> Result<(), Fail> {
     for _put in 0..65 {
         script.push_str("panel 0 Q2 . ")?;
     }
-    let (status, written) = run(alloc, FLAGS, script.as_str())?;
-    assert_eq!(rt; status, 0);
-    assert_eq!(rt; written.as_slice(), b"full 0 Q2\n".as_slice());
-    Ok(())
+    expect_rows(&rt, alloc, &[(FLAGS, script.as_str(), 0, "full 0 Q2\n")])
 }
 
 /// The answer to words over an input of which each read fails.
-fn answer_unread(alloc: Global, words: &[&str]) -> Result<(u8, Vec<u8>), Fail> {
+fn answer_unread(
+    rt: &impl Abort,
+    alloc: Global,
+    words: &[&str],
+    shelf: &mut Vec<Box<dyn Trackside>>,
+) -> Result<(u8, Vec<u8>), Fail> {
+    assert!(rt; is_shelf(shelf));
     let mut line = Vec::new(alloc);
     for word in words {
         line.push(String::from_str(alloc, word)?)?;
     }
     let mut source = MemSource::new(Vec::new(alloc), 1, vec![in alloc; 0]?);
     let mut sink = MemSink::new(alloc, 100, 8, Vec::new(alloc))?;
-    let status = ssi_program(alloc, line.as_slice(), &mut source, &mut sink);
+    let status = ssi_program(alloc, line.as_slice(), &mut source, &mut sink, shelf);
     Ok((status, Vec::from_slice(alloc, sink.written())?))
 }
 
 #[test]
 fn words_without_a_shape_read_nothing(rt: HostRuntime) -> Result<(), Fail> {
     let alloc = rt.alloc();
+    let mut shelf = make_shelf!(alloc);
     let answers = [
-        answer_unread(alloc, &[])?,
-        answer_unread(alloc, &["walk"])?,
-        answer_unread(alloc, &["run", "1"])?,
-        answer_unread(alloc, &[""])?,
+        answer_unread(&rt, alloc, &[], &mut shelf)?,
+        answer_unread(&rt, alloc, &["walk"], &mut shelf)?,
+        answer_unread(&rt, alloc, &["run", "1"], &mut shelf)?,
+        answer_unread(&rt, alloc, &[""], &mut shelf)?,
     ];
     for (status, written) in answers {
         assert_eq!(rt; status, 2);
         assert_eq!(rt; written.as_slice(), USAGE);
     }
-    let (status, _) = answer_unread(alloc, &["run"])?;
+    let (status, _) = answer_unread(&rt, alloc, &["run"], &mut shelf)?;
     assert_eq!(rt; status, 3);
     Ok(())
 }
@@ -338,8 +408,10 @@ fn input_past_the_limit(rt: HostRuntime) -> Result<(), Fail> {
         (2_097_152, 1, b"fault 1:2097153 S1\n".as_slice()),
         (2_097_153, 9, TOO_LARGE),
     ];
+    let mut shelf = make_shelf!(alloc);
     for (bytes, expected, output) in cases {
-        let (status, written) = answer(alloc, &["run"], vec![in alloc; b' '; bytes]?)?;
+        let spaces = vec![in alloc; b' '; bytes]?;
+        let (status, written) = answer(&rt, alloc, &["run"], spaces, &mut shelf)?;
         assert_eq!(rt; status, expected, "{bytes}");
         assert_eq!(rt; written.as_slice(), output, "{bytes}");
     }

@@ -1,7 +1,7 @@
 use Rattle.std.proofs.Common.{rules, arith}
 use Rattle.ssi_base.proofs.Writing.{Written-past}
 use Rattle.ssi_run.proofs.FaultTexts.{next_line, no_line}
-use Rattle.ssi_run.proofs.Rest.{less_left, none_left, stopped}
+use Rattle.ssi_script.proofs.Rest.{less_left, none_left, stopped}
 use Rattle.ssi_run.proofs.fault_lines.write_name_faults.Goals as goal
 
 pub returns-in_err-write_name_fault : goal.returns-in_err-write_name_fault

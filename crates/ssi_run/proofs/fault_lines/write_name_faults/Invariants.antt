@@ -1,6 +1,6 @@
 use Rattle.std.proofs.Common.{drop}
 use Rattle.ssi_run.specs.FaultLines.{name_fault_lines}
-use Rattle.ssi_run.proofs.Rest.{IsLeft}
+use Rattle.ssi_script.proofs.Rest.{IsLeft}
 use Rattle.ssi_run.proofs.fault_lines.write_name_faults.Given as goal
 
 abbrev pub invariant-loop-fault : goal.invariant-loop-fault

@@ -1,15 +1,14 @@
-use Rattle.std.proofs.Common.{◌≡◌, ◌∙◌, sym, refl}
-use Rattle.ssi_run.specs.declared.status.Status.TheVariants.{Done, NoMemory}
-use Rattle.ssi_run.specs.Answers.{done}
-use Rattle.ssi_run.specs.Traces.{trace_of}
-use Rattle.ssi_run.proofs.Replying.{replies, told_not}
+use Rattle.std.proofs.Common.{rules}
+use Rattle.ssi_run.proofs.Replying.{replies_bad, replies_stopped}
 use Rattle.ssi_run.proofs.input.run_steps.Goals as goal
 
-pub returns-clause-answered : goal.returns-clause-answered
-returns-clause-answered g c = λ told.
-    let trace = done (trace_of c.args.image c.args.steps.now) in
-    let start = rw c.in-Ok.ensures at c.write_steps-written.ensures in
-    rw c.told.ensures (replies (λ answer. answer ≡ trace) trace refl Done refl c.write_steps-written.result start)
+pub returns-in_err-write_steps-clause-answered : goal.returns-in_err-write_steps-clause-answered
+returns-in_err-write_steps-clause-answered g c =
+    let steps = rw c.as_slice.ensures.value at c.write_steps.ensures in
+    replies_stopped c.args.input.now _ c.args.script.now.fault (search rules) c.from_residual.ensures.0 steps
 
-pub returns-clause-nothing : goal.returns-clause-nothing
-returns-clause-nothing g c = λ e. let not = told_not c.write_steps-written.result Done NoMemory (sym c.told.ensures ∙ e) in absurd cc
+pub returns-in-Some-clause-answered : goal.returns-in-Some-clause-answered
+returns-in-Some-clause-answered g c =
+    let steps = rw c.as_slice.ensures.value at c.write_steps.ensures in
+    rw (c.told.ensures, c.in-Some.is)
+    (replies_bad c.args.input.now _ c.in-Some.fault c.in_ok-write_steps.is c.branch-write_steps.ensures steps c.write_script_fault.result c.write_script_fault.ensures)

@@ -14,8 +14,8 @@ returns-in-None g c =
     let none : command_of words ≡ None = sym c.read_words.ensures ∙ c.in-None.is in
     let number = c.number.ensures ∙ ap number_after c.told.ensures in
     let left = g.S.Source.left c.args.source.now in
-    let usage = of_usage words left left (g.S.Source.faults c.args.source.now) (g.S.Source.faults c.args.source.now) _ _ _ _ none (nothing_read left) c.write_all.result c.write_all.ensures.written in
-    let promise = subst (Promise words left left _ _ _ _ _ _) (sym number) usage in
+    let usage = of_usage words left left (g.S.Source.faults c.args.source.now) (g.S.Source.faults c.args.source.now) _ _ _ _ _ none (nothing_read left) c.write_all.result c.write_all.ensures.written in
+    let promise = subst (Promise words left left _ _ _ _ _ _ _ _) (sym number) usage in
     record {
       answer = promise.answer;
       no_shape = promise.no_shape;
@@ -30,6 +30,7 @@ returns-in-None g c =
       sink_goes_on = promise.sink_goes_on;
       part = promise.part;
       nothing = λ h. absurd (usage_told c.write_all.result c.number.result number h);
+      untouched = promise.untouched;
       complete = promise.complete;
     }
 
@@ -38,10 +39,10 @@ returns-in-Some-Run g c =
     let words = texts c.args.words.now in
     let run : command_of words ≡ Some Run = sym c.read_words.ensures ∙ c.in-Some-Run.is ∙ ap Some (run_is _) in
     let did = c.run.ensures in
-    let ran : Ran _ _ _ _ _ _ c.run.result = record { answered = did.answered; to_end = did.to_end; past_limit = did.past_limit; within = did.within } in
-    let still : (c.run.result ≡ Ok NoMemory) ⊎ (c.run.result ≡ Ok SourceFault) → GoesOn (g.K.Sink.faults c.args.sink.now) (g.K.Sink.faults c.run.new.sink) = λ h. subst (λ sink. GoesOn (g.K.Sink.faults c.args.sink.now) (g.K.Sink.faults sink)) (sym (did.nothing h)) (same_count (g.K.Sink.faults c.args.sink.now)) in
-    let promise = subst (Promise words _ _ _ _ _ _ _ _) (sym c.number-in-Some-Run.ensures)
-    (of_run words _ _ (g.S.Source.faults c.args.source.now) (g.S.Source.faults c.run.new.source) _ _ _ _ run c.run.result ran did.source_fault still) in
+    let ran : Ran _ _ _ _ _ _ _ _ c.run.result = record { answered = did.answered; to_end = did.to_end; past_limit = did.past_limit; within = did.within } in
+    let still : (c.run.result ≡ Ok NoMemory) ⊎ (c.run.result ≡ Ok SourceFault) → GoesOn (g.K.Sink.faults c.args.sink.now) (g.K.Sink.faults c.run.new.sink) = λ h. subst (λ sink. GoesOn (g.K.Sink.faults c.args.sink.now) (g.K.Sink.faults sink)) (sym (did.nothing h).0) (same_count (g.K.Sink.faults c.args.sink.now)) in
+    let promise = subst (Promise words _ _ _ _ _ _ _ _ _ _) (sym c.number-in-Some-Run.ensures)
+    (of_run words _ _ (g.S.Source.faults c.args.source.now) (g.S.Source.faults c.run.new.source) _ _ _ _ _ _ run c.run.result ran did.source_fault (λ h. (still h, (did.nothing h).1))) in
     record {
       answer = promise.answer;
       no_shape = promise.no_shape;
@@ -55,6 +56,7 @@ returns-in-Some-Run g c =
       source_goes_on = did.goes_on;
       sink_goes_on = promise.sink_goes_on;
       part = promise.part;
-      nothing = λ h. did.nothing (number_told c.run.result c.number-in-Some-Run.result c.number-in-Some-Run.ensures h);
+      nothing = λ h. (did.nothing (number_told c.run.result c.number-in-Some-Run.result c.number-in-Some-Run.ensures h)).0;
+      untouched = promise.untouched;
       complete = promise.complete;
     }

@@ -1,5 +1,0 @@
-use Rattle.ssi_base.proofs.Writing.{joins}
-use Rattle.ssi_run.proofs.pieces.write_two.Goals as goal
-
-pub returns : goal.returns
-returns g c = search joins

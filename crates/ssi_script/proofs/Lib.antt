@@ -1,0 +1,11 @@
+pub mod Rest
+pub mod Shown
+pub mod Others
+pub mod Taking
+pub mod StepWords
+pub mod StepLaws
+pub mod Stopping
+pub mod ScriptLaws
+pub mod Wires
+pub mod Doing
+pub mod ScriptAnswers

@@ -1,0 +1,11 @@
+pub mod Steps
+pub mod Meanings
+pub mod Misspellings
+pub mod Scripts
+pub mod StepReading
+pub mod Telegrams
+pub mod Lines
+pub mod Sessions
+pub mod Traces
+pub mod OthersStay
+pub mod WorkedChanges

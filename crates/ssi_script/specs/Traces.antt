@@ -1,0 +1,57 @@
+-- The trace: what a session writes, piece by piece.
+use Rattle.std.specs.Prelude.{ℕ, zero, suc, if◌then◌else◌, List, [], ◌∷◌, ◌++◌, Option, option_map}
+use Rattle.ssi_cycle.specs.Requests.{is_full, taken_of}
+use Rattle.ssi_trackside.specs.Module.{ModuleState}
+use Rattle.ssi_script.specs.declared.step.ScriptStep.{ScriptStep}
+use Rattle.ssi_script.specs.declared.step.ScriptStep.TheVariants.{Panel, Cycle, Happen, Raw, Lose, Drop}
+use Rattle.ssi_script.specs.Lines.{line_of, full_line}
+use Rattle.ssi_script.specs.Sessions.{Session, exchange_of, after_cycle, after_step}
+
+-- the panel and the number of the request that a minor cycle takes: there is panel 0
+abbrev pub served_of : List ℕ → Option (ℕ × ℕ)
+served_of waiting = option_map (λ request. (0, request)) (taken_of waiting)
+
+-- the line of the minor cycle that a session comes to
+abbrev pub cycle_text : Session → List ℕ
+cycle_text session =
+    let exchange = exchange_of session in
+    line_of session.number exchange.out exchange.arrived (served_of session.core.world.waiting) (after_cycle session).core
+
+-- a put that finds 64 requests waiting gives a line
+abbrev pub put_text : ℕ → ℕ → Session → List ℕ
+put_text panel request session = if is_full session.core.world.waiting then full_line session.core.plan panel request else []
+
+-- a piece of what is written, and the modules as they stand when it is written: what gives it has been done before
+pub record Piece : Type 0 where
+  pub text : List ℕ
+  pub shelf : List ModuleState
+
+-- the text of pieces, one after another
+abbrev pub text_of : List Piece → List ℕ
+text_of [] = []
+text_of (piece ∷ pieces) = piece.text ++ text_of pieces
+
+-- the pieces of minor cycles: each has its line
+abbrev pub cycle_pieces : ℕ → Session → List Piece
+cycle_pieces zero session = []
+cycle_pieces (suc count) session =
+    let next = after_cycle session in
+    record { text = cycle_text session; shelf = next.shelf } ∷ cycle_pieces count next
+
+-- a step that isn't minor cycles is one piece
+abbrev pub one_piece : List ℕ → Session → List Piece
+one_piece text session = record { text = text; shelf = session.shelf } ∷ []
+
+-- the pieces of a step
+abbrev pub step_pieces : ScriptStep → Session → List Piece
+step_pieces (Panel panel request) session = one_piece (put_text panel request session) session
+step_pieces (Cycle count) session = cycle_pieces count session
+step_pieces (Happen address kind event) session = one_piece [] (after_step (Happen address kind event) session)
+step_pieces (Raw address bytes) session = one_piece [] session
+step_pieces (Lose address) session = one_piece [] session
+step_pieces (Drop address) session = one_piece [] session
+
+-- the pieces of steps, one after another
+abbrev pub steps_pieces : List ScriptStep → Session → List Piece
+steps_pieces [] session = []
+steps_pieces (step ∷ steps) session = step_pieces step session ++ steps_pieces steps (after_step step session)
