@@ -437,6 +437,7 @@ fn a_box_of_another_type_gives_the_same(rt: HostRuntime) -> Result<(), Fail> {
         commands: 0,
     };
     // The track module of address 5.
+    assert!(rt; shelf.len() > 14);
     shelf[14] = Box::new(alloc, counting)?;
     let case = on_one_track(
         "raw 5 69 1 254 186 . cycle 6 . raw 5 69 1 255 186 . cycle 64 . cycle 64 .",
