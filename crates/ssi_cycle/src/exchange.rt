@@ -1,6 +1,6 @@
 //! What arrives in a slot.
 
-ghost use Rattle.std.specs.Prelude.{◌≡◌, ◌<◌, false, Some, length, option_and_then, slice_get};
+ghost use Rattle.std.specs.Prelude.{◌≡◌, ◌<◌, false, Some, length, slice_get};
 ghost use Rattle.ssi_identities.specs.DataSets.{ModulePlan, counts_of};
 ghost use Rattle.ssi_identities.specs.Facts.{fact_count_of};
 ghost use Rattle.ssi_identities.specs.Wells.{IsWell};

@@ -1,6 +1,6 @@
 //! The interlocking: one event a call.
 
-ghost use Rattle.std.specs.Prelude.{◌≡◌, ◌<◌, ◌↔◌, Some, None, length, option_map, IfOk, IsErr, IsTrue};
+ghost use Rattle.std.specs.Prelude.{◌≡◌, ◌<◌, ◌↔◌, None, length, option_map, IfOk, IsErr, IsTrue};
 ghost use Rattle.ssi_identities.specs.DataSets.{counts_of};
 ghost use Rattle.ssi_identities.specs.Facts.{IsWithinLimits, fact_count_of};
 ghost use Rattle.ssi_state.specs.Changes.{IsNextChange};

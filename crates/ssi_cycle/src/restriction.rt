@@ -1,6 +1,6 @@
 //! What becomes of the identities that are wired to a module which makes no report that can be taken for good.
 
-ghost use Rattle.std.specs.Prelude.{◌≡◌, ◌<◌, ◌≤◌, Some, length, slice_get};
+ghost use Rattle.std.specs.Prelude.{◌≡◌, ◌<◌, Some, length, slice_get};
 ghost use Rattle.ssi_identities.specs.DataSets.{ModulePlan, counts_of, names_in};
 ghost use Rattle.ssi_identities.specs.Facts.{count_of, fact_count_of};
 ghost use Rattle.ssi_identities.specs.Steps.{obey};

@@ -3,6 +3,7 @@
 ghost use Rattle.std.specs.Prelude.{◌≡◌, ◌<◌, ◌≤◌, false, length};
 ghost use Rattle.ssi_identities.specs.DataSets.{counts_of};
 ghost use Rattle.ssi_identities.specs.Facts.{fact_count_of};
+ghost use Rattle.ssi_identities.specs.States.{State as States};
 ghost use Rattle.ssi_identities.specs.Wells.{IsWell};
 ghost use Rattle.ssi_cycle.specs.Statements.{after_statements, share_of as share_of_count, statements_in};
 
@@ -19,6 +20,36 @@ fn share_of(count: u16) -> u16
     (count + 63) / 64
 }
 
+/// Whether a slot has any statement: where it hasn't, its statements change nothing.
+fn has_statements(image: &Image, slot: u8) -> bool
+    requires well { IsWell image.now }
+    requires slot { slot < 64 }
+    ensures { result ≡ false → (state : States)
+        → after_statements image.now (statements_in image.now.statements slot) state ≡ state }
+{
+    let count = image.statement_count();
+    u16::from(slot) * share_of(count) < count
+}
+
+/// Lets the statements of a slot act, in written order. It is kept apart, so that a slot without statements makes no stack.
+#[inline(never)]
+fn act_in_turn(image: &Image, slot: u8, state: &mut State)
+    requires well { IsWell image.now }
+    requires slot { slot < 64 }
+    requires facts { length state.old ≡ fact_count_of (counts_of image.now) }
+    ensures { state.new ≡ after_statements image.now (statements_in image.now.statements slot) state.old }
+{
+    let count = image.statement_count();
+    let share = share_of(count);
+    let first = u16::from(slot) * share;
+    let end = count.min(first + share);
+    let mut stack = Stack::new();
+    for number in first..end {
+        let place = BodyAt::Statement(number);
+        run_body_with(image, &mut stack, place, state, NO_REPORT);
+    }
+}
+
 /// Lets the statements of a slot act, in written order. Answers whether it has any: where it hasn't, nothing changes.
 pub fn run_statements(image: &Image, slot: u8, state: &mut State) -> bool
     requires well { IsWell image.now }
@@ -27,17 +58,9 @@ pub fn run_statements(image: &Image, slot: u8, state: &mut State) -> bool
     ensures effect { state.new ≡ after_statements image.now (statements_in image.now.statements slot) state.old }
     ensures none { result ≡ false → state.new ≡ state.old }
 {
-    let count = image.statement_count();
-    let share = share_of(count);
-    let first = u16::from(slot) * share;
-    let end = count.min(first + share);
-    if end <= first {
-        return false;
+    let has = has_statements(image, slot);
+    if has {
+        act_in_turn(image, slot, state);
     }
-    let mut stack = Stack::new();
-    for number in first..end {
-        let place = BodyAt::Statement(number);
-        run_body_with(image, &mut stack, place, state, NO_REPORT);
-    }
-    true
+    has
 }

@@ -1,6 +1,6 @@
 //! Examples of the definitions, worked by hand.
 
-ghost use Rattle.std.specs.Prelude.{◌≡◌, ℕ, Bool, true, false, List, [], ◌∷◌, ◌++◌, map, replicate, Some, None};
+ghost use Rattle.std.specs.Prelude.{◌≡◌, ℕ, Bool, true, false, [], ◌∷◌, ◌++◌, map, replicate, Some, None};
 ghost use Rattle.std.specs.List.{flat_map, range_with_len};
 ghost use Rattle.ssi_identities.specs.States.{State};
 ghost use Rattle.ssi_cycle.specs.Moments.{moments_of};
@@ -8,7 +8,7 @@ ghost use Rattle.ssi_cycle.specs.Outputs.{byte_of, output_byte, output_in};
 ghost use Rattle.ssi_cycle.specs.Restrictions.{restricted};
 ghost use Rattle.ssi_cycle.specs.Statements.{share_of, statements_in};
 ghost use Rattle.ssi_cycle.specs.Worked.{statement, statements, module_of_p1, module_of_p2, module_of_s1, module_of_tracks, lineside, lineside_is, module_of_t1, one_track, one_track_is, in_slot};
-ghost use Rattle.ssi_cycle.specs.Worlds.{Event, after, after_event, start_of};
+ghost use Rattle.ssi_cycle.specs.Worlds.{after, after_event, start_of};
 ghost use Rattle.ssi_cycle.specs.Worlds.Event.{Put, Minor};
 
 /// Each slot has the least number of statements of which 64 slots have enough, as far as there are so many: each statement stands in one slot.

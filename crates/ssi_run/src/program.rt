@@ -1,6 +1,6 @@
 //! The top call: what the program does with its words, its input and its output.
 
-ghost use Rattle.std.specs.Prelude.{◌≡◌, ◌≢◌, ◌≤◌, ◌⊎◌, ℕ, List, None, Ok, length, IsOk, map};
+ghost use Rattle.std.specs.Prelude.{◌≡◌, ◌≢◌, ◌⊎◌, ℕ, List, None, Ok, length, IsOk, map};
 ghost use Rattle.std.specs.Io.KnownBytes.{IsAtEnd};
 ghost use Rattle.ssi_base.specs.Faults.{GoesOn, Rose};
 ghost use Rattle.ssi_base.specs.Streams.{GivesPast, GivesWithin};
@@ -8,7 +8,7 @@ ghost use Rattle.ssi_trackside.specs.Shelf.{IsShelf};
 ghost use Rattle.ssi_run.specs.Statuses.{statuses, input_limit};
 ghost use Rattle.ssi_run.specs.Words.{command_of, texts};
 ghost use Rattle.ssi_run.specs.Answers.{GivesAnswer, GivesPart, HasAnAnswer, HasOneAnswer, IsAnswered, IsInput, RunAnswers};
-ghost use Rattle.ssi_run.specs.Outcomes.{Replies, number_after, told_of};
+ghost use Rattle.ssi_run.specs.Outcomes.{Replies, number_after};
 
 use crate::input::run_input;
 use crate::status::{Status, told};

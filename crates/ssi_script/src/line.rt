@@ -1,12 +1,12 @@
 //! The lines of the trace.
 
-ghost use Rattle.std.specs.Prelude.{◌≡◌, ◌++◌, [], None, Some, codes, decimal, IfOk, IfSome, IsTrue};
+ghost use Rattle.std.specs.Prelude.{◌≡◌, ◌++◌, None, Some, codes, decimal, IfOk, IfSome, IsTrue};
 ghost use Rattle.std.specs.Io.{WritesAtMost};
 ghost use Rattle.std.specs.Io.KnownBytes.{WriteAppends};
 ghost use Rattle.ssi_base.specs.Faults.{HasCause, unbounded, unbounded_bounded};
 ghost use Rattle.ssi_base.specs.Streams.{Writes};
 ghost use Rattle.ssi_identities.specs.DataSets.{Plan};
-ghost use Rattle.ssi_script.specs.Lines.{changes_of, full_line, line_of, passed_text, taken_text, telegram_text};
+ghost use Rattle.ssi_script.specs.Lines.{full_line, line_of, passed_text, taken_text, telegram_text};
 
 use crate::changes::write_changes;
 use crate::pieces::{write_three, write_two};

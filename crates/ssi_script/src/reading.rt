@@ -1,6 +1,5 @@
 //! Reads `file RUN` and the steps behind it.
 
-ghost use Rattle.std.specs.Prelude.{◌≡◌};
 ghost use Rattle.ssi_lexer.specs.Readings.{GoesOn};
 ghost use Rattle.ssi_script.specs.StepReading as spec;
 ghost use Rattle.ssi_script.specs.StepReading.{ReadsStep};

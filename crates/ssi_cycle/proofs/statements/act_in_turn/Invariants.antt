@@ -1,7 +1,7 @@
 use Rattle.std.proofs.Common.{◌≡◌, [], length}
 use Rattle.ssi_cycle.specs.Statements.{after_statements}
 use Rattle.ssi_cycle.proofs.Slots.{statements_between}
-use Rattle.ssi_cycle.proofs.statements.run_statements.Given as goal
+use Rattle.ssi_cycle.proofs.statements.act_in_turn.Given as goal
 
 abbrev pub invariant-loop-number : goal.invariant-loop-number
 invariant-loop-number l = record {

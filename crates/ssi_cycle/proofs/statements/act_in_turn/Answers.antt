@@ -1,13 +1,7 @@
-use Rattle.std.proofs.Common.{◌*◌, ◌≤◌, length, sym, ap, ◌∙◌, arith}
+use Rattle.std.proofs.Common.{◌≤◌, length, sym, ap, ◌∙◌, arith}
 use Rattle.ssi_cycle.specs.Statements.{after_statements}
 use Rattle.ssi_cycle.proofs.Slots.{none_between, slot_statements, statement_keeps, statement_next, statement_there}
-use Rattle.ssi_cycle.proofs.statements.run_statements.Goals as goal
-
-pub returns-then-end-first-clause-effect : goal.returns-then-end-first-clause-effect
-returns-then-end-first-clause-effect c =
-    let plan = c.args.image.now in
-    let slot = slot_statements plan.statements c.statement_count-count.result c.share_of-share.result c.from.result c.min-end.result c.args.slot c.statement_count-count.ensures c.share_of-share.ensures c.from.ensures c.min-end.ensures in
-    sym (none_between plan (c.from.result * c.share_of-share.result) c.min-end.result c.args.state.now c.if-end-first.true) ∙ ap (λ rows. after_statements plan rows c.args.state.now) (sym slot)
+use Rattle.ssi_cycle.proofs.statements.act_in_turn.Goals as goal
 
 pub run_body_with-requires-clause-there : goal.run_body_with-requires-clause-there
 run_body_with-requires-clause-there c = statement_there c.args.image.now c.loop-number.number (omega (arith, c.min-end.ensures, c.statement_count-count.ensures))
@@ -23,8 +17,8 @@ loop-number-preserved c =
       empty = c.run_body_with.ensures.empty;
     }
 
-pub returns-clause-effect : goal.returns-clause-effect
-returns-clause-effect c =
+pub returns : goal.returns
+returns c =
     let plan = c.args.image.now in
     let slot = slot_statements plan.statements c.statement_count-count.result c.share_of-share.result c.from.result c.min-end.result c.args.slot c.statement_count-count.ensures c.share_of-share.ensures c.from.ensures c.min-end.ensures in
     sym (none_between plan c.loop-number.number c.min-end.result c.loop-number.state c.loop-number-test.false) ∙ c.loop-number.invariant.left ∙ ap (λ rows. after_statements plan rows c.args.state.now) (sym slot)
