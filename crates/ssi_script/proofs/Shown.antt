@@ -1,7 +1,6 @@
 -- One fact after another is shown.
 use Rattle.std.proofs.Common.{◌≡◌, ℕ, suc, zero, ◌+◌, ◌-◌, ◌<◌, ◌≤◌, Bool, true, false, List, [], ◌++◌, Option, Some, None, length, get_or, drop, refl, ap, subst, sym, ◌∙◌, arith, zero-add}
 use Rattle.std.specs.List.{flat_map}
-use Rattle.std.specs.Option.{is_some}
 use Rattle.std.proofs.lemmas.List.{drop_all, drop_more, get_or-map}
 use Rattle.std.proofs.lemmas.List.FromFn.{get_or-range_with_len}
 use Rattle.std.proofs.lemmas.Option.{get_or_from_slice_get}
@@ -101,11 +100,6 @@ change_found old new from next fact value is change = subst (IsNextChange old ne
 -- no next change
 pub none_found : (old new : State) (from : ℕ) (next : Option (ℕ × Bool)) → next ≡ None → IsNextChange old new from next → (fact : ℕ) → from ≤ fact → IsUnchanged old new fact
 none_found old new from next is change = subst (IsNextChange old new from) is change
-
--- what isn't there is none
-pub none_is : {A : Type 0} (found : Option A) → is_some found ≡ false → found ≡ None
-none_is None e = refl
-none_is (Some x) e = absurd cc
 
 -- where no fact is the next change from the first on, nothing is written
 pub unchanged_text : (plan : Plan) (old new : State) → length new ≡ fact_count_of (counts_of plan) → (next : Option (ℕ × Bool)) → IsNextChange old new 0 next → next ≡ None → changes_of plan old new ≡ []

@@ -1,6 +1,6 @@
 //! The lines of the trace.
 
-ghost use Rattle.std.specs.Prelude.{◌≡◌, ◌++◌, None, Some, codes, decimal, IfOk, IfSome, IsTrue};
+ghost use Rattle.std.specs.Prelude.{◌≡◌, ◌++◌, None, Some, codes, if◌then◌else◌, IfOk, IsTrue};
 ghost use Rattle.std.specs.Io.{WritesAtMost};
 ghost use Rattle.std.specs.Io.KnownBytes.{WriteAppends};
 ghost use Rattle.ssi_base.specs.Faults.{HasCause, unbounded, unbounded_bounded};
@@ -74,22 +74,25 @@ fn write_passed<K: Sink>(
     write_taken(sink, image, taken)
 }
 
-/// Whether nothing went out, arrived or was taken.
-fn nothing_passed(out: Option<[u8; 4]>, arrived: Option<[u8; 4]>, taken: Option<(u8, u16)>) -> bool
-    ensures { IsTrue result → (plan : Plan) → passed_text plan out arrived taken ≡ codes " - - -" }
+/// Whether nothing went out, arrived, was taken or changed.
+fn is_idle(
+    out: Option<[u8; 4]>,
+    arrived: Option<[u8; 4]>,
+    taken: Option<(u8, u16)>,
+    change: Option<(u16, bool)>,
+) -> bool
+    ensures passed { IsTrue result → (plan : Plan) → passed_text plan out arrived taken ≡ codes " - - -" }
+    ensures changed { IsTrue result → change ≡ None }
 {
-    out.is_none() && arrived.is_none() && taken.is_none()
+    out.is_none() && arrived.is_none() && taken.is_none() && change.is_none()
 }
 
-/// The line of a minor cycle in which nothing passed or changed, in one piece; none where its number leaves no room for it.
-fn idle_line(number: u64) -> Option<ArrayVec<u8, 20>>
-    ensures { IfSome result (λ line. line.items ≡ decimal number ++ codes " - - -\n") }
+/// Appends to the number of an idle minor cycle the rest of its line, where there is room for it. Answers whether the line is whole now; if not, it is as it was.
+fn end_idle_line(line: &mut ArrayVec<u8, 20>, is_idle: bool) -> bool
+    ensures line { line.new.items ≡ (if result then line.old.items ++ codes " - - -\n" else line.old.items) }
+    ensures idle { IsTrue result → IsTrue is_idle }
 {
-    let mut line = decimal(number);
-    match line.try_extend_from_slice(b" - - -\n") {
-        Ok(()) => Some(line),
-        Err(_) => None,
-    }
+    is_idle && line.try_extend_from_slice(b" - - -\n").is_ok()
 }
 
 /// Writes the line of the minor cycle that was just made: its number, the telegram that went out in it, what arrived, the request that was taken, and each fact
@@ -107,12 +110,12 @@ pub fn write_cycle<K: Sink>(
         (line_of number out arrived did.now.taken core.now) result }
 {
     let change = core.next_change(0);
-    if nothing_passed(out, arrived, did.taken) && change.is_none() {
-        if let Some(line) = idle_line(number) {
-            return write_all(sink, line.as_slice());
-        }
+    let is_idle = is_idle(out, arrived, did.taken, change);
+    let mut line = decimal(number);
+    if end_idle_line(&mut line, is_idle) {
+        return write_all(sink, line.as_slice());
     }
-    write_all(sink, decimal(number).as_slice())?;
+    write_all(sink, line.as_slice())?;
     write_passed(sink, core.image(), out, arrived, did.taken)?;
     write_changes(sink, core, change)?;
     write_all(sink, b"\n")

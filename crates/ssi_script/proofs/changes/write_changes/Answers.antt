@@ -27,7 +27,7 @@ changes-preserved g c =
     let shown = ap (λ (plan : Plan). fact_text plan (fact_at (counts_of plan) c.in-Some.fact) c.in-Some.value ++ rest) (sym c.image.ensures) in
     let whole = text ∙ shown in
     record {
-      left = less_left (rw whole at c.changes.invariant.left) (Written-past c.in_ok-write_numbered.is c.branch-write_numbered.ensures c.write_numbered.ensures);
+      left = less_left {piece = fact_text c.image.result.now (fact_at (counts_of c.image.result.now) c.in-Some.fact) c.in-Some.value} {rest = rest} (rw whole at c.changes.invariant.left) (Written-past c.in_ok-write_numbered.is c.branch-write_numbered.ensures c.write_numbered.ensures);
       within = omega (arith, found.within);
       next = c.next_change-next.ensures.change;
     }
