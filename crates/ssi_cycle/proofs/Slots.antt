@@ -1,6 +1,7 @@
 -- The statements of a slot, from one on.
-use Rattle.std.proofs.Common.{◌≡◌, ℕ, suc, ◌+◌, ◌-◌, ◌*◌, ◌<◌, ◌≤◌, true, List, [], ◌∷◌, length, take, drop, get_or, min, Some, is_some, refl, ap, sym, ◌∙◌, arith}
-use Rattle.std.proofs.lemmas.List.{drop_more, take_min, length-drop}
+use Rattle.std.proofs.Common.{◌≡◌, ◌↔◌, ℕ, suc, ◌+◌, ◌-◌, ◌*◌, ◌<◌, ◌≤◌, nat_lt, IsTrue, true, List, [], ◌∷◌, length, take, drop, get_or, min, Some, is_some, refl, ap, sym, ◌∙◌, arith}
+use Rattle.std.proofs.lemmas.Bool.Decides.{nat_tests}
+use Rattle.std.proofs.lemmas.List.{drop_more, take_min, length-drop, length-take}
 use Rattle.std.proofs.lemmas.Option.{slice_get-get_or}
 use Rattle.ssi_identities.specs.declared.rule.Body.{Body}
 use Rattle.ssi_identities.specs.DataSets.{Plan, StmtPlan}
@@ -60,3 +61,14 @@ pub none_between : (plan : Plan) (from end : ℕ) (state : State) → end ≤ fr
 none_between plan from end state past =
     let none : end - from ≡ 0 = omega arith in
     rw none refl
+
+-- a slot has a share of the statements, as far as there are so many
+slot_count : (statements : List StmtPlan) (slot : ℕ) → length (statements_in statements slot) ≡ min (share_of (length statements)) (length statements - slot * share_of (length statements))
+slot_count statements slot = length-take (share_of (length statements)) (drop (slot * share_of (length statements)) statements) ∙ ap (min (share_of (length statements))) (length-drop (slot * share_of (length statements)) statements)
+
+-- there are some where the first place of the slot is one of a statement, and nowhere else
+some_below : (count first : ℕ) → IsTrue (nat_lt first count) ↔ (0 < min (share_of count) (count - first))
+some_below count first = ((λ below. grind (arith, nat_tests)), (λ some. grind (arith, nat_tests)))
+
+pub slot_has : (statements : List StmtPlan) (slot : ℕ) → IsTrue (nat_lt (slot * share_of (length statements)) (length statements)) ↔ (0 < length (statements_in statements slot))
+slot_has statements slot = rw (slot_count statements slot) (some_below (length statements) (slot * share_of (length statements)))

@@ -1,8 +1,8 @@
 -- The world of an interlocking, and what an event makes of it.
-use Rattle.std.specs.Prelude.{ℕ, ◌+◌, ◌%◌, List, [], ◌∷◌, drop}
+use Rattle.std.specs.Prelude.{ℕ, ◌+◌, ◌%◌, ◌<◌, ◌⊎◌, List, [], ◌∷◌, drop, length, IsSome}
 use Rattle.ssi_identities.specs.DataSets.{Plan, counts_of}
 use Rattle.ssi_identities.specs.States.{State, start_of as start_state_of}
-use Rattle.ssi_cycle.specs.Exchanges.{Arrival, after_arrival}
+use Rattle.ssi_cycle.specs.Exchanges.{Arrival, after_arrival, module_in}
 use Rattle.ssi_cycle.specs.Statements.{statements_in, after_statements}
 use Rattle.ssi_cycle.specs.Requests.{with_request, taken_of, after_request}
 
@@ -26,6 +26,10 @@ minor_cycle_of plan world arrived =
       waiting = drop 1 world.waiting;
       slot = (world.slot + 1) % 64;
     }
+
+-- something may act in a minor cycle: its slot has a module, or a statement, or a request waits
+abbrev pub MayAct : Plan → World → Type 0
+MayAct plan world = IsSome (module_in plan world.slot) ⊎ (0 < length (statements_in plan.statements world.slot)) ⊎ (0 < length world.waiting)
 
 -- a request is put on panel 0
 abbrev pub put_of : World → ℕ → World

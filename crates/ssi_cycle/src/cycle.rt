@@ -1,11 +1,11 @@
 //! The parts of a minor cycle, one after another.
 
-ghost use Rattle.std.specs.Prelude.{◌≡◌, ◌<◌, All, false, drop, length};
+ghost use Rattle.std.specs.Prelude.{◌≡◌, ◌<◌, ◌↔◌, All, IsTrue, false, drop, length};
 ghost use Rattle.ssi_identities.specs.DataSets.{counts_of};
 ghost use Rattle.ssi_identities.specs.Facts.{fact_count_of};
 ghost use Rattle.ssi_identities.specs.Wells.{IsWell};
 ghost use Rattle.ssi_cycle.specs.Requests.{taken_of};
-ghost use Rattle.ssi_cycle.specs.Worlds.{minor_cycle_of};
+ghost use Rattle.ssi_cycle.specs.Worlds.{MayAct, minor_cycle_of};
 
 use crate::exchange::take_arrival;
 use crate::requests::{MOST_WAITING, serve};
@@ -43,6 +43,7 @@ pub fn act(
     ensures facts { length state.new ≡ length state.old }
     ensures rest { waiting.new.items ≡ drop 1 waiting.old.items }
     ensures taken { result.1 ≡ taken_of waiting.old.items }
+    ensures acted { IsTrue result.0 ↔ MayAct image.now (record { state = state.old; waiting = waiting.old.items; slot = slot }) }
     ensures idle { result.0 ≡ false → state.new ≡ state.old }
 {
     let reported = take_arrival(image, slot, arrived, state);

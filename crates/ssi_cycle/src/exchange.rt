@@ -1,10 +1,10 @@
 //! What arrives in a slot.
 
-ghost use Rattle.std.specs.Prelude.{◌≡◌, ◌<◌, false, Some, length, slice_get};
+ghost use Rattle.std.specs.Prelude.{◌≡◌, ◌<◌, false, Some, is_some, length, slice_get};
 ghost use Rattle.ssi_identities.specs.DataSets.{ModulePlan, counts_of};
 ghost use Rattle.ssi_identities.specs.Facts.{fact_count_of};
 ghost use Rattle.ssi_identities.specs.Wells.{IsWell};
-ghost use Rattle.ssi_cycle.specs.Exchanges.{after_arrival, after_exchange, after_input, heard_from};
+ghost use Rattle.ssi_cycle.specs.Exchanges.{after_arrival, after_exchange, after_input, heard_from, module_in};
 
 use crate::restriction::restrict;
 use ssi_eval::run_body;
@@ -50,6 +50,7 @@ pub fn take_arrival(image: &Image, slot: u8, arrived: Option<[u8; 4]>, state: &m
     requires well { IsWell image.now }
     requires facts { length state.old ≡ fact_count_of (counts_of image.now) }
     ensures effect { state.new ≡ after_arrival image.now slot arrived state.old }
+    ensures answer { result ≡ is_some (module_in image.now slot) }
     ensures ignored { result ≡ false → state.new ≡ state.old }
 {
     match image.module_at(slot) {

@@ -1,9 +1,8 @@
 //! The statements of a slot.
 
-ghost use Rattle.std.specs.Prelude.{◌≡◌, ◌<◌, ◌≤◌, false, length};
+ghost use Rattle.std.specs.Prelude.{◌≡◌, ◌<◌, ◌≤◌, ◌↔◌, false, length, IsTrue};
 ghost use Rattle.ssi_identities.specs.DataSets.{counts_of};
 ghost use Rattle.ssi_identities.specs.Facts.{fact_count_of};
-ghost use Rattle.ssi_identities.specs.States.{State as States};
 ghost use Rattle.ssi_identities.specs.Wells.{IsWell};
 ghost use Rattle.ssi_cycle.specs.Statements.{after_statements, share_of as share_of_count, statements_in};
 
@@ -20,12 +19,11 @@ fn share_of(count: u16) -> u16
     (count + 63) / 64
 }
 
-/// Whether a slot has any statement: where it hasn't, its statements change nothing.
+/// Whether a slot has any statement.
 fn has_statements(image: &Image, slot: u8) -> bool
     requires well { IsWell image.now }
     requires slot { slot < 64 }
-    ensures { result ≡ false → (state : States)
-        → after_statements image.now (statements_in image.now.statements slot) state ≡ state }
+    ensures { IsTrue result ↔ (0 < length (statements_in image.now.statements slot)) }
 {
     let count = image.statement_count();
     u16::from(slot) * share_of(count) < count
@@ -56,6 +54,7 @@ pub fn run_statements(image: &Image, slot: u8, state: &mut State) -> bool
     requires slot { slot < 64 }
     requires facts { length state.old ≡ fact_count_of (counts_of image.now) }
     ensures effect { state.new ≡ after_statements image.now (statements_in image.now.statements slot) state.old }
+    ensures answer { IsTrue result ↔ (0 < length (statements_in image.now.statements slot)) }
     ensures none { result ≡ false → state.new ≡ state.old }
 {
     let has = has_statements(image, slot);
