@@ -1,22 +1,22 @@
 """Makes inputs in a temporary folder, times a program on them, and prints the figures.
 
-Each input is run three times, with its output into a file, and the middle time is taken. Status and output
-are looked at: a run that answers something else than is expected ends the bench. Where figures are asked of
-an input, they are printed with whether they are kept.
+Each input is run fifteen times, with its output into a file, and the least processor time is taken, so that
+other work on the machine counts as little as it may. Status and output are looked at: a run that answers
+something else than is expected ends the bench. Where figures are asked of an input, they are printed with
+whether they are kept.
 """
 
 import collections
 import itertools
 import os
+import resource
 import shutil
-import statistics
 import subprocess
 import sys
 import tempfile
-import time
 
 LIMIT = 2_097_152
-RUNS = 3
+RUNS = 15
 FLAGS = 512
 REQUESTS = 1_024
 STATEMENTS = 4_096
@@ -394,8 +394,14 @@ def unwired():
     return layout({"TCS": "".join(f"{name}." for name in names("T", count, 5))}), count
 
 
+def processor_time():
+    """The processor time of all programs that were run so far, in seconds."""
+    used = resource.getrusage(resource.RUSAGE_CHILDREN)
+    return used.ru_utime + used.ru_stime
+
+
 def measured(program, source, output, want):
-    """The middle time of some runs in seconds, and the most memory of them in bytes.
+    """The least processor time of some runs in seconds, and the most memory of them in bytes.
 
     Each run ends with the wanted status.
     """
@@ -405,16 +411,16 @@ def measured(program, source, output, want):
     words = [timer, "-f", "%M", "-o", said, program, "run"] if timer else [program, "run"]
     for _ in range(RUNS):
         with open(source, "rb") as given, open(output, "wb") as taken:
-            before = time.perf_counter()
+            before = processor_time()
             status = subprocess.run(words, stdin=given, stdout=taken).returncode
-            times.append(time.perf_counter() - before)
+            times.append(processor_time() - before)
         if status != want:
             sys.exit(f"bench: status {status} for {source}, and {want} was expected")
         if timer:
             # Before the figure, `time` tells a status that isn't 0.
             with open(said) as it:
                 most = max(most, int(it.read().split()[-1]) * 1024)
-    return statistics.median(times), most
+    return min(times), most
 
 
 def taken_and_lines(output):
@@ -461,7 +467,7 @@ def timed(program, room, name, made, want, status=0, count=taken_and_lines):
 
 def main():
     program = os.path.abspath(sys.argv[1])
-    print(f"{os.cpu_count()} cores; the middle of {RUNS} runs, output into a file")
+    print(f"{os.cpu_count()} cores; the least processor time of {RUNS} runs, output into a file")
     with tempfile.TemporaryDirectory(prefix="ssi-bench-") as room:
         made, lines = idle()
         figures = timed(program, room, "idle", made, (0, lines))
