@@ -1,9 +1,9 @@
 """Makes inputs in a temporary folder, times a program on them, and prints the figures.
 
-Each input is run fifteen times, with its output into a file, and the least processor time is taken, so that
-other work on the machine counts as little as it may. Status and output are looked at: a run that answers
-something else than is expected ends the bench. Where figures are asked of an input, they are printed with
-whether they are kept.
+Each input is run fifteen times, with its output into a file. Two times are printed: the least processor time,
+on which other work on the machine counts as little as it may, and the middle time by the clock. Status and
+output are looked at: a run that answers something else than is expected ends the bench. Where figures are
+asked of an input, it is printed whether they are kept, by the one time and by the other.
 """
 
 import collections
@@ -11,9 +11,11 @@ import itertools
 import os
 import resource
 import shutil
+import statistics
 import subprocess
 import sys
 import tempfile
+import time
 
 LIMIT = 2_097_152
 RUNS = 15
@@ -401,26 +403,27 @@ def processor_time():
 
 
 def measured(program, source, output, want):
-    """The least processor time of some runs in seconds, and the most memory of them in bytes.
+    """The least processor time of some runs and their middle time by the clock, in seconds, and the most memory in bytes.
 
     Each run ends with the wanted status.
     """
-    times, most = [], 0
+    times, clock, most = [], [], 0
     said = output + ".most"
     timer = shutil.which("time")
     words = [timer, "-f", "%M", "-o", said, program, "run"] if timer else [program, "run"]
     for _ in range(RUNS):
         with open(source, "rb") as given, open(output, "wb") as taken:
-            before = processor_time()
+            used, begun = processor_time(), time.perf_counter()
             status = subprocess.run(words, stdin=given, stdout=taken).returncode
-            times.append(processor_time() - before)
+            times.append(processor_time() - used)
+            clock.append(time.perf_counter() - begun)
         if status != want:
             sys.exit(f"bench: status {status} for {source}, and {want} was expected")
         if timer:
             # Before the figure, `time` tells a status that isn't 0.
             with open(said) as it:
                 most = max(most, int(it.read().split()[-1]) * 1024)
-    return min(times), most
+    return min(times), statistics.median(clock), most
 
 
 def taken_and_lines(output):
@@ -436,21 +439,29 @@ def faults_by_code(output):
         return dict(collections.Counter(line.split()[2].decode() for line in it))
 
 
-def report(what, count, unit, seconds, most):
+def report(what, count, unit, seconds, clock, most):
     memory = f"{most / 2**20:.1f} MiB at most" if most else "memory not measured (no `time`)"
-    print(f"{what}: {seconds:.3f} s, {count / seconds / 1e6:.1f} million {unit} a second, {memory}")
+    print(f"{what}: {seconds:.3f} s ({clock:.3f} s by the clock), {count / seconds / 1e6:.1f} million {unit} a second, {memory}")
 
 
-def report_time_asked(seconds, asked):
+def verdict(kept, by_the_clock):
+    """Whether what is asked is kept, by the least processor time and by the middle time of the clock."""
+    if kept and by_the_clock:
+        return "kept"
+    return f"{'kept' if kept else 'NOT KEPT'}, by the clock {'kept' if by_the_clock else 'NOT KEPT'}"
+
+
+def report_time_asked(seconds, clock, most, asked):
     """Whether a run took the time asked of it."""
-    print(f"  asked of it: at most {asked} s: {'kept' if seconds <= asked else 'NOT KEPT'}")
+    print(f"  asked of it: at most {asked} s: {verdict(seconds <= asked, clock <= asked)}")
 
 
-def report_asked(seconds, most):
+def report_asked(seconds, clock, most):
     """Whether a text was read and answered in the time and memory asked of it."""
-    kept = seconds <= SECONDS_ASKED and most <= MEMORY_ASKED
-    said = "NOT KEPT" if not kept else "kept" if most else "the time is kept"
-    print(f"  asked of it: at most {SECONDS_ASKED} s and {MEMORY_ASKED // 2**20} MiB: {said}")
+    fits = most <= MEMORY_ASKED
+    said = verdict(fits and seconds <= SECONDS_ASKED, fits and clock <= SECONDS_ASKED)
+    unsaid = "" if most else " (the time alone)"
+    print(f"  asked of it: at most {SECONDS_ASKED} s and {MEMORY_ASKED // 2**20} MiB: {said}{unsaid}")
 
 
 def timed(program, room, name, made, want, status=0, count=taken_and_lines):
@@ -467,7 +478,7 @@ def timed(program, room, name, made, want, status=0, count=taken_and_lines):
 
 def main():
     program = os.path.abspath(sys.argv[1])
-    print(f"{os.cpu_count()} cores; the least processor time of {RUNS} runs, output into a file")
+    print(f"{os.cpu_count()} cores; the least processor time of {RUNS} runs, and the middle time by the clock; output into a file")
     with tempfile.TemporaryDirectory(prefix="ssi-bench-") as room:
         made, lines = idle()
         figures = timed(program, room, "idle", made, (0, lines))
@@ -477,17 +488,17 @@ def main():
         report(f"900,000 minor cycles, {puts:,} with a request of six items", lines, "cycles", *figures)
         figures = timed(program, room, "quiet", quiet_junction(), (0, CYCLES))
         report("1,000,000 minor cycles of a junction at rest", CYCLES, "cycles", *figures)
-        report_time_asked(figures[0], QUIET_ASKED)
+        report_time_asked(*figures, QUIET_ASKED)
         made, count = trains()
         figures = timed(program, room, "trains", made, (count, CYCLES))
         report(f"1,000,000 minor cycles of a junction, {count:,} trains", CYCLES, "cycles", *figures)
-        report_time_asked(figures[0], TRAINS_ASKED)
+        report_time_asked(*figures, TRAINS_ASKED)
         figures = timed(program, room, "limits", limits(), (0, CYCLES))
         report("1,000,000 minor cycles of a layout with its limits filled", CYCLES, "cycles", *figures)
         made, lines = tests()
-        seconds, most = timed(program, room, "tests", made, (lines, lines))
-        report("a condition of 1,000 tests, a million times", 1_000_000_000, "tests", seconds, most)
-        kept = "kept" if 1_000_000_000 / seconds >= TESTS_ASKED else "NOT KEPT"
+        seconds, clock, most = timed(program, room, "tests", made, (lines, lines))
+        report("a condition of 1,000 tests, a million times", 1_000_000_000, "tests", seconds, clock, most)
+        kept = verdict(*(1_000_000_000 / taken >= TESTS_ASKED for taken in (seconds, clock)))
         print(f"  asked of it: at least {TESTS_ASKED // 1_000_000} million tests a second: {kept}")
         made = entries()
         figures = timed(program, room, "entries", made, (0, 1))
