@@ -7,7 +7,7 @@
 //! bytes. The crate stands on nothing else here.
 #![tactic(auto)]
 
-ghost use Rattle.std.specs.Prelude.{◌≡◌, ◌≢◌, ℕ, ◌-◌, ◌^◌, ◌<◌, ◌↔◌, [], ◌∷◌};
+ghost use Rattle.std.specs.Prelude.{◌≡◌, ◌≢◌, ℕ, ◌-◌, ◌^◌, ◌<◌, ◌↔◌, [], ◌∷◌, Some, None};
 ghost use Rattle.ssi_telegrams.specs.Telegram.{IsAddress, command_telegram_of, report_telegram_of, reported_byte, IsDamaged};
 
 #[cfg(test)]
@@ -61,6 +61,15 @@ pub fn read_report(address: u8, bytes: [u8; 4]) -> Option<u8>
         None
     }
 }
+
+/// Examples of the definition, worked by hand: four numbers report a byte, the second of them, and only the whole report does.
+pub fn worked_reports()
+    ensures lowest { reported_byte 1 (65 ∷ 0 ∷ 255 ∷ 190 ∷ []) ≡ Some 0 }
+    ensures highest { reported_byte 63 (127 ∷ 255 ∷ 0 ∷ 128 ∷ []) ≡ Some 255 }
+    ensures no_byte { reported_byte 5 (69 ∷ 300 ∷ 0 ∷ 186 ∷ []) ≡ None }
+    ensures three { reported_byte 5 (69 ∷ 1 ∷ 254 ∷ []) ≡ None }
+    ensures five { reported_byte 5 (69 ∷ 1 ∷ 254 ∷ 186 ∷ 0 ∷ []) ≡ None }
+{}
 
 /// Both bytes, each with its complement.
 fn telegram(head: u8, value: u8) -> [u8; 4]
