@@ -1,44 +1,36 @@
--- What holds of every body's steps: as many facts as before, and each step from where the one before it ended.
-use Rattle.std.proofs.Common.{◌≡◌, ℕ, ◌+◌, Bool, true, false, List, [], ◌∷◌, ◌++◌, length, map, Some, None, refl, ap, sym, subst, ◌∙◌}
+-- What holds of every body's steps: each begins where the one before it ended, and its command makes it.
+use Rattle.std.proofs.Common.{◌≡◌, ℕ, ◌+◌, Bool, true, false, List, [], ◌∷◌, ◌++◌, map, Some, None, refl, ap, sym, subst, ◌∙◌}
 use Rattle.std.specs.Prelude.{⊤, if◌then◌else◌}
 use Rattle.std.specs.List.{AllByRecursion}
-use Rattle.std.proofs.lemmas.List.{length-set}
+use Rattle.ssi_identities.specs.declared.fact.Counts.{Counts}
 use Rattle.ssi_identities.specs.declared.rule.BodyItem.{BodyItem}
 use Rattle.ssi_identities.specs.declared.rule.Body.{Body}
 use Rattle.ssi_identities.specs.DataSets.{Plan}
-use Rattle.ssi_identities.specs.States.{State}
-use Rattle.ssi_identities.specs.Steps.{Step, Act, Valuation, act_of, act_of_item, after_steps, choice_act, effect_of, guards_of, in_turn, no_act, one_then, steps_of}
-use Rattle.ssi_identities.proofs.Acts.{act_of_body, act_of_do, act_of_if, after_more}
+use Rattle.ssi_identities.specs.States.{IsStateOf, State}
+use Rattle.ssi_identities.specs.Steps.{Step, Act, Valuation, act_of, act_of_item, after_steps, choice_act, effect_of, guards_of, in_turn, no_act, obey, one_then, steps_of}
+use Rattle.ssi_identities.proofs.Acts.{act_of_body, act_of_do, act_of_if}
 use Rattle.ssi_identities.proofs.Bodies.{body_induction}
+use Rattle.ssi_identities.proofs.States.{keeps_obeyed}
 
--- each step begins in the state that the one before it has left
+-- each step begins in the state that the one before it has left, and leaves what its command makes of it
 abbrev pub AreLinked : State → List Step → Type 0
 AreLinked state [] = ⊤
-AreLinked state (step ∷ steps) = (step.before ≡ state) × AreLinked step.after steps
+AreLinked state (step ∷ steps) = (step.before ≡ state) × (step.after ≡ obey step.command step.before) × AreLinked step.after steps
 
 linked_more : (state : State) (steps more : List Step) → AreLinked state steps → AreLinked (after_steps state steps) more → AreLinked state (steps ++ more)
 linked_more state [] more one next = next
-linked_more state (step ∷ steps) more one next = (one.0, linked_more step.after steps more one.1 next)
+linked_more state (step ∷ steps) more one next = (one.0, one.1, linked_more step.after steps more one.2 next)
 
--- an act leaves as many facts as there were, by linked steps
+-- an act makes linked steps
 record IsSteady (act : Act) : Type 0 where
-  same : (first : ℕ) (state : State) → length (after_steps state (act.steps first state)) ≡ length state
   linked : (first : ℕ) (state : State) → AreLinked state (act.steps first state)
 
 steady_then : (act next : Act) → IsSteady act → IsSteady next → IsSteady (one_then act next)
 steady_then act next one next_one = record {
-  same = λ first state.
-      let mid = after_steps state (act.steps first state) in
-      ap length (after_more (act.steps first state) (next.steps (first + act.commands) mid) state) ∙ next_one.same (first + act.commands) mid ∙ one.same first state;
   linked = λ first state.
       let mid = after_steps state (act.steps first state) in
       linked_more state (act.steps first state) (next.steps (first + act.commands) mid) (one.linked first state) (next_one.linked (first + act.commands) mid);
 }
-
-same_branch : (value : Bool) (act next : Act) → IsSteady act → IsSteady next → (first : ℕ) (state : State)
-    → length (after_steps state (if value then act.steps first state else next.steps (first + act.commands) state)) ≡ length state
-same_branch true act next one next_one first state = one.same first state
-same_branch false act next one next_one first state = next_one.same (first + act.commands) state
 
 linked_branch : (value : Bool) (act next : Act) → IsSteady act → IsSteady next → (first : ℕ) (state : State)
     → AreLinked state (if value then act.steps first state else next.steps (first + act.commands) state)
@@ -46,13 +38,10 @@ linked_branch true act next one next_one first state = one.linked first state
 linked_branch false act next one next_one first state = next_one.linked (first + act.commands) state
 
 steady_choice : (guard : State → Bool) (act next : Act) → IsSteady act → IsSteady next → IsSteady (choice_act guard act next)
-steady_choice guard act next one next_one = record {
-  same = λ first state. same_branch (guard state) act next one next_one first state;
-  linked = λ first state. linked_branch (guard state) act next one next_one first state;
-}
+steady_choice guard act next one next_one = record { linked = λ first state. linked_branch (guard state) act next one next_one first state }
 
 steady_none : IsSteady no_act
-steady_none = record { same = λ first state. refl; linked = λ first state. tt }
+steady_none = record { linked = λ first state. tt }
 
 steady_items : (holds : Valuation) (items : List BodyItem) → AllByRecursion (λ item. IsSteady (act_of_item holds item)) items → IsSteady (in_turn (map (act_of_item holds) items))
 steady_items holds [] each = steady_none
@@ -60,15 +49,24 @@ steady_items holds (item ∷ items) each = steady_then (act_of_item holds item) 
 
 steady_body : (holds : Valuation) (body : Body) → IsSteady (act_of holds body)
 steady_body holds = body_induction (λ item. IsSteady (act_of_item holds item)) (λ body. IsSteady (act_of holds body))
-    (λ command. subst IsSteady (sym (act_of_do holds command)) (record { same = λ first state. length-set state command.fact command.value; linked = λ first state. (refl, tt) }))
+    (λ command. subst IsSteady (sym (act_of_do holds command)) (record { linked = λ first state. (refl, refl, tt) }))
     (λ guard body one. subst IsSteady (sym (act_of_if holds guard body None)) (steady_choice (holds guard) (act_of holds body) no_act one steady_none))
     (λ guard body other one other_one. subst IsSteady (sym (act_of_if holds guard body (Some other))) (steady_choice (holds guard) (act_of holds body) (act_of holds other) one other_one))
     (λ items each. subst IsSteady (sym (act_of_body holds items)) (steady_items holds items each))
 
--- a body leaves as many facts as there were
-pub effect_length : (plan : Plan) (body : Body) (state : State) (report : ℕ) → length (effect_of plan body state report) ≡ length state
-effect_length plan body state report = (steady_body (guards_of plan report) body).same 0 state
-
--- its steps are linked
+-- a body's steps are linked
 pub steps_linked : (plan : Plan) (body : Body) (state : State) (report : ℕ) → AreLinked state (steps_of plan body state report)
 steps_linked plan body state report = (steady_body (guards_of plan report) body).linked 0 state
+
+module _ (counts : Counts) where
+  -- what linked steps begin with, and all that they leave, is of the layout
+  pub step_keeps : (state : State) (step : Step) → step.before ≡ state → step.after ≡ obey step.command step.before → IsStateOf counts state → IsStateOf counts step.after
+  step_keeps state step from made of = subst (IsStateOf counts) (sym made) (keeps_obeyed counts step.command step.before (subst (IsStateOf counts) (sym from) of))
+
+  steps_keep : (state : State) (steps : List Step) → AreLinked state steps → IsStateOf counts state → IsStateOf counts (after_steps state steps)
+  steps_keep state [] linked of = of
+  steps_keep state (step ∷ steps) linked of = steps_keep step.after steps linked.2 (step_keeps state step linked.0 linked.1 of)
+
+  -- a body leaves a state of the layout
+  pub effect_keeps : (plan : Plan) (body : Body) (state : State) (report : ℕ) → IsStateOf counts state → IsStateOf counts (effect_of plan body state report)
+  effect_keeps plan body state report of = steps_keep state (steps_of plan body state report) (steps_linked plan body state report) of

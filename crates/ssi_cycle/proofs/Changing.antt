@@ -41,7 +41,7 @@ more_lead before mid after changes more one next = record {
 
 steps_chain : (state : State) (steps : List Step) → AreLinked state steps → IsChain state (map Stepped steps)
 steps_chain state [] linked = tt
-steps_chain state (step ∷ steps) linked = (linked.0, steps_chain step.after steps linked.1)
+steps_chain state (step ∷ steps) linked = (linked.0, steps_chain step.after steps linked.2)
 
 steps_last : (state : State) (steps : List Step) → after_steps state steps ≡ after_changes state (map Stepped steps)
 steps_last state [] = refl

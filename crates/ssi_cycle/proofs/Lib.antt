@@ -1,5 +1,5 @@
 pub mod Acts
-pub mod Lengths
+pub mod Keeping
 pub mod Modules
 pub mod Restricting
 pub mod Bytes

@@ -6,13 +6,11 @@ use Rattle.std.proofs.lemmas.Bool.{cases_lt}
 use Rattle.std.proofs.lemmas.List.{drop_more, drop_all, get_or_past}
 use Rattle.std.proofs.lemmas.List.Elements.{All-get_or}
 use Rattle.ssi_identities.specs.declared.fact.Kind.{Kind}
-use Rattle.ssi_identities.specs.declared.rule.Cmd.{Cmd}
 use Rattle.ssi_identities.specs.DataSets.{Plan, ModulePlan, counts_of, names_in}
-use Rattle.ssi_identities.specs.States.{State}
-use Rattle.ssi_identities.specs.Steps.{obey}
+use Rattle.ssi_identities.specs.States.{Setting, State, after_setting, after_settings}
 use Rattle.ssi_identities.specs.Wells.{IsWellModule, wired_kind}
 use Rattle.ssi_image.specs.Places.{pin_of}
-use Rattle.ssi_cycle.specs.Restrictions.{after_commands, pin_restriction}
+use Rattle.ssi_cycle.specs.Restrictions.{pin_restriction}
 
 -- what may stand in a list of what may be, by its place
 pub where_given : {X : Type 0} (xs : List (Option X)) (i : ℕ) → option_and_then (λ x. x) (slice_get xs i) ≡ get_or xs i None
@@ -20,12 +18,12 @@ where_given [] i = refl
 where_given (x ∷ xs) zero = refl
 where_given (x ∷ xs) (suc i) = where_given xs i
 
-pub commands_more : (commands more : List Cmd) (state : State) → after_commands (commands ++ more) state ≡ after_commands more (after_commands commands state)
-commands_more [] more state = refl
-commands_more (command ∷ commands) more state = commands_more commands more (obey command state)
+settings_more : (settings more : List Setting) (state : State) → after_settings state (settings ++ more) ≡ after_settings (after_settings state settings) more
+settings_more [] more state = refl
+settings_more (setting ∷ settings) more state = settings_more settings more (after_setting state setting)
 
 -- what the pins from one on restrict
-abbrev pub restriction_from : Plan → ModulePlan → ℕ → List Cmd
+abbrev pub restriction_from : Plan → ModulePlan → ℕ → List Setting
 restriction_from plan row pin = flat_map (pin_restriction (counts_of plan) (wired_kind row.kind)) (drop pin row.pins)
 
 restriction_more : (plan : Plan) (row : ModulePlan) (pin : ℕ) → (pin < length row.pins) ⊎ (length row.pins ≤ pin)
@@ -47,13 +45,13 @@ module _ (plan : Plan) (number : ℕ) (row : ModulePlan) (there : slice_get plan
   pin_is pin = ap (option_and_then (λ (row : ModulePlan). option_and_then (λ wired. wired) (slice_get row.pins pin))) there ∙ where_given row.pins pin
 
   -- one pin is restricted, and those after it are left
-  pub pin_next : (pin : ℕ) (wired : Option ℕ) (old new : State) → wired ≡ pin_of plan number pin → new ≡ after_commands (pin_restriction (counts_of plan) (wired_kind row.kind) wired) old
-      → after_commands (restriction_from plan row pin) old ≡ after_commands (restriction_from plan row (pin + 1)) new
+  pub pin_next : (pin : ℕ) (wired : Option ℕ) (old new : State) → wired ≡ pin_of plan number pin → new ≡ after_settings old (pin_restriction (counts_of plan) (wired_kind row.kind) wired)
+      → after_settings old (restriction_from plan row pin) ≡ after_settings new (restriction_from plan row (pin + 1))
   pin_next pin wired old new is done =
       let this : wired ≡ get_or row.pins pin None = is ∙ pin_is pin in
-      ap (λ commands. after_commands commands old) (restriction_more plan row pin (cases_lt pin (length row.pins)) ∙ ap (λ w. pin_restriction (counts_of plan) (wired_kind row.kind) w ++ restriction_from plan row (pin + 1)) (sym this))
-      ∙ commands_more (pin_restriction (counts_of plan) (wired_kind row.kind) wired) (restriction_from plan row (pin + 1)) old
-      ∙ ap (after_commands (restriction_from plan row (pin + 1))) (sym done)
+      ap (after_settings old) (restriction_more plan row pin (cases_lt pin (length row.pins)) ∙ ap (λ w. pin_restriction (counts_of plan) (wired_kind row.kind) w ++ restriction_from plan row (pin + 1)) (sym this))
+      ∙ settings_more (pin_restriction (counts_of plan) (wired_kind row.kind) wired) (restriction_from plan row (pin + 1)) old
+      ∙ ap (λ state. after_settings state (restriction_from plan row (pin + 1))) (sym done)
 
   -- the identity at a pin is there
   pub wired_there : (pin identity : ℕ) → IsWellModule plan row → pin_of plan number pin ≡ Some identity → identity < length (names_in plan (wired_kind row.kind))
@@ -74,5 +72,5 @@ few_pins true pins is = omega arith
 few_pins false pins is = omega arith
 
 -- no pin is left
-pub no_pin_left : (plan : Plan) (row : ModulePlan) → IsWellModule plan row → (state : State) → after_commands (restriction_from plan row 8) state ≡ state
+pub no_pin_left : (plan : Plan) (row : ModulePlan) → IsWellModule plan row → (state : State) → after_settings state (restriction_from plan row 8) ≡ state
 no_pin_left plan row well state = rw (drop_all 8 row.pins (few_pins (row.kind == 0) (length row.pins) well.pins)) refl

@@ -1,16 +1,16 @@
 -- The statements of a slot, from one on.
-use Rattle.std.proofs.Common.{◌≡◌, ◌↔◌, ℕ, suc, ◌+◌, ◌-◌, ◌*◌, ◌<◌, ◌≤◌, nat_lt, IsTrue, true, List, [], ◌∷◌, length, take, drop, get_or, min, Some, is_some, refl, ap, sym, ◌∙◌, arith}
+use Rattle.std.proofs.Common.{◌≡◌, ◌↔◌, ℕ, suc, ◌+◌, ◌-◌, ◌*◌, ◌<◌, ◌≤◌, nat_lt, IsTrue, true, List, [], ◌∷◌, length, take, drop, get_or, min, Some, is_some, refl, ap, sym, subst, ◌∙◌, arith}
 use Rattle.std.proofs.lemmas.Bool.Decides.{nat_tests}
 use Rattle.std.proofs.lemmas.List.{drop_more, take_min, length-drop, length-take}
 use Rattle.std.proofs.lemmas.Option.{slice_get-get_or}
 use Rattle.ssi_identities.specs.declared.rule.Body.{Body}
-use Rattle.ssi_identities.specs.DataSets.{Plan, StmtPlan}
-use Rattle.ssi_identities.specs.States.{State}
+use Rattle.ssi_identities.specs.DataSets.{Plan, StmtPlan, counts_of}
+use Rattle.ssi_identities.specs.States.{IsStateOf, State}
 use Rattle.ssi_identities.specs.Steps.{effect_of}
 use Rattle.ssi_identities.specs.Values.{cond_of}
 use Rattle.ssi_image.specs.declared.places.BodyAt.TheVariants.{Statement}
 use Rattle.ssi_image.specs.Places.{body_at, body_of_statement}
-use Rattle.ssi_cycle.proofs.Acts.{effect_length}
+use Rattle.ssi_cycle.proofs.Acts.{effect_keeps}
 use Rattle.ssi_cycle.specs.Statements.{after_statements, share_of, statements_in}
 
 -- a statement without commands
@@ -49,12 +49,12 @@ slot_statements statements count share from end slot count_is share_is from_is e
     let room : end - first ≡ min share (length (drop first statements)) = rw (length-drop, end_is, count_is) (omega arith) in
     rw (← count_is, ← share_is, ← from_is, room) (sym (take_min share (drop first statements)))
 
--- a statement leaves as many facts as there were
+-- a statement leaves a state of the layout
 pub statement_keeps : (plan : Plan) (from : ℕ) (old new : State) → from < length plan.statements → ((body : Body) → body_at plan (Statement from) ≡ Some body → new ≡ effect_of plan body old 0)
-    → length new ≡ length old
-statement_keeps plan from old new within acts =
+    → IsStateOf (counts_of plan) old → IsStateOf (counts_of plan) new
+statement_keeps plan from old new within acts of =
     let body = body_of_statement (get_or plan.statements from no_statement) in
-    ap length (acts body (rw (slice_get-get_or plan.statements from no_statement within) refl)) ∙ effect_length plan body old 0
+    subst (IsStateOf (counts_of plan)) (sym (acts body (rw (slice_get-get_or plan.statements from no_statement within) refl))) (effect_keeps (counts_of plan) plan body old 0 of)
 
 -- no statement is left
 pub none_between : (plan : Plan) (from end : ℕ) (state : State) → end ≤ from → after_statements plan (statements_between plan.statements from end) state ≡ state

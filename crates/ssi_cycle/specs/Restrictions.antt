@@ -6,38 +6,31 @@ use Rattle.ssi_identities.specs.declared.fact.Kind.{Kind}
 use Rattle.ssi_identities.specs.declared.fact.Kind.TheVariants.{Points, Signal, Track}
 use Rattle.ssi_identities.specs.declared.fact.FactKind.{FactKind}
 use Rattle.ssi_identities.specs.declared.fact.FactKind.TheVariants.{DetectedNormal, DetectedReverse, Lamp, Occupied}
-use Rattle.ssi_identities.specs.declared.rule.Cmd.{Cmd}
 use Rattle.ssi_identities.specs.DataSets.{Plan, ModulePlan, counts_of}
 use Rattle.ssi_identities.specs.Facts.{fact_number_of}
-use Rattle.ssi_identities.specs.States.{State}
-use Rattle.ssi_identities.specs.Steps.{obey}
+use Rattle.ssi_identities.specs.States.{Setting, State, after_settings}
 use Rattle.ssi_identities.specs.Wells.{wired_kind}
 
--- the command that gives a fact of an identity a value
-abbrev pub command_of : Counts → FactKind → ℕ → Bool → Cmd
-command_of counts kind index value = record { fact = fact_number_of counts kind index; value = value }
+-- a fact of an identity, and the value that it gets
+abbrev pub setting_of : Counts → FactKind → ℕ → Bool → Setting
+setting_of counts kind index value = record { fact = fact_number_of counts kind index; value = value }
 
 -- points become undetected in both lies, a lamp becomes unproved, a track becomes occupied
-abbrev pub restriction_of : Counts → Kind → ℕ → List Cmd
-restriction_of counts Points points = command_of counts DetectedNormal points false ∷ command_of counts DetectedReverse points false ∷ []
-restriction_of counts Signal signal = command_of counts Lamp signal false ∷ []
-restriction_of counts Track track = command_of counts Occupied track true ∷ []
+abbrev pub restriction_of : Counts → Kind → ℕ → List Setting
+restriction_of counts Points points = setting_of counts DetectedNormal points false ∷ setting_of counts DetectedReverse points false ∷ []
+restriction_of counts Signal signal = setting_of counts Lamp signal false ∷ []
+restriction_of counts Track track = setting_of counts Occupied track true ∷ []
 restriction_of counts _ _ = []
 
 -- an empty pin has nothing to restrict
-abbrev pub pin_restriction : Counts → Kind → Option ℕ → List Cmd
+abbrev pub pin_restriction : Counts → Kind → Option ℕ → List Setting
 pin_restriction counts kind None = []
 pin_restriction counts kind (Some identity) = restriction_of counts kind identity
 
 -- every identity at a pin of the module
-abbrev pub restriction_of_module : Plan → ModulePlan → List Cmd
+abbrev pub restriction_of_module : Plan → ModulePlan → List Setting
 restriction_of_module plan row = flat_map (pin_restriction (counts_of plan) (wired_kind row.kind)) row.pins
-
--- the state after commands, one after another
-abbrev pub after_commands : List Cmd → State → State
-after_commands [] state = state
-after_commands (command ∷ commands) state = after_commands commands (obey command state)
 
 -- the state in which all that is wired to the module is restricted; all other facts stay
 abbrev pub restricted : Plan → ModulePlan → State → State
-restricted plan row state = after_commands (restriction_of_module plan row) state
+restricted plan row state = after_settings state (restriction_of_module plan row)

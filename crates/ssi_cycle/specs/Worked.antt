@@ -69,7 +69,7 @@ points_at true detected = true ∷ false ∷ detected ∷ []
 
 -- the state in which P1 is normal and P2 reverse, each detected there or not, the lamp is proved or not, and each track is occupied or not
 abbrev pub lineside_is : Bool → Bool → Bool → Bool → Bool → State
-lineside_is p1 p2 lamp t1 t2 = points_at false p1 ++ points_at true p2 ++ lamp ∷ t1 ∷ t2 ∷ []
+lineside_is p1 p2 lamp t1 t2 = record { facts = points_at false p1 ++ points_at true p2 ++ lamp ∷ t1 ∷ t2 ∷ [] }
 
 -- 'L1 s', 'L2 s' and 'T1 c' as tests of the layout of one track, and '0 h'
 abbrev pub l1_set : Cond
@@ -135,7 +135,7 @@ one_track = record {
 
 -- the state in which T1 is occupied or not, and L1 and L2 are set or not
 abbrev pub one_track_is : Bool → Bool → Bool → State
-one_track_is t1 l1 l2 = t1 ∷ l1 ∷ l2 ∷ []
+one_track_is t1 l1 l2 = record { facts = t1 ∷ l1 ∷ l2 ∷ [] }
 
 -- the world in which a slot comes next, the state is so, and these requests wait
 abbrev pub in_slot : ℕ → State → List ℕ → World

@@ -2,7 +2,7 @@
 
 ghost use Rattle.std.specs.Prelude.{◌≡◌, ◌<◌, ◌↔◌, All, IsTrue, false, drop, length};
 ghost use Rattle.ssi_identities.specs.DataSets.{counts_of};
-ghost use Rattle.ssi_identities.specs.Facts.{fact_count_of};
+ghost use Rattle.ssi_identities.specs.States.{IsStateOf, fact_total_of};
 ghost use Rattle.ssi_identities.specs.Wells.{IsWell};
 ghost use Rattle.ssi_cycle.specs.Requests.{taken_of};
 ghost use Rattle.ssi_cycle.specs.Worlds.{MayAct, minor_cycle_of};
@@ -16,7 +16,7 @@ use ssi_state::State;
 
 /// Takes over a state where the last minor cycle may have changed it.
 pub fn note(noted: &mut State, state: &State, has_acted: bool)
-    requires facts { length noted.old ≡ length state.now }
+    requires facts { fact_total_of noted.old ≡ fact_total_of state.now }
     requires idle { has_acted ≡ false → noted.old ≡ state.now }
     ensures { noted.new ≡ state.now }
 {
@@ -37,10 +37,10 @@ pub fn act(
     requires well { IsWell image.now }
     requires slot { slot < 64 }
     requires there { All (λ request. request < length image.now.requests) waiting.old.items }
-    requires facts { length state.old ≡ fact_count_of (counts_of image.now) }
+    requires state { IsStateOf (counts_of image.now) state.old }
     ensures effect { state.new
         ≡ (minor_cycle_of image.now (record { state = state.old; waiting = waiting.old.items; slot = slot }) arrived).state }
-    ensures facts { length state.new ≡ length state.old }
+    ensures whole { IsStateOf (counts_of image.now) state.new }
     ensures rest { waiting.new.items ≡ drop 1 waiting.old.items }
     ensures taken { result.1 ≡ taken_of waiting.old.items }
     ensures acted { IsTrue result.0 ↔ MayAct image.now (record { state = state.old; waiting = waiting.old.items; slot = slot }) }

@@ -2,7 +2,8 @@
 
 ghost use Rattle.std.specs.Prelude.{◌≡◌, ◌<◌, ◌↔◌, None, length, option_map, IfOk, IsErr, IsTrue};
 ghost use Rattle.ssi_identities.specs.DataSets.{counts_of};
-ghost use Rattle.ssi_identities.specs.Facts.{IsWithinLimits, fact_count_of};
+ghost use Rattle.ssi_identities.specs.Facts.{IsWithinLimits};
+ghost use Rattle.ssi_identities.specs.States.{IsStateOf};
 ghost use Rattle.ssi_state.specs.Changes.{IsNextChange};
 ghost use Rattle.ssi_cycle.specs.Cores.{after_event_on, core_of};
 ghost use Rattle.ssi_cycle.specs.Moments.{after_changes, changes_of_minor_cycle};
@@ -50,7 +51,7 @@ impl Model for Interlocking {
     ghost use Rattle.ssi_identities.specs.contracts.rule.BodyItem as body_item;
     ghost use Rattle.ssi_identities.specs.contracts.rule.CondItem as cond_item;
     ghost use Rattle.ssi_cycle.specs.Cores.{Core};
-    ghost use Rattle.ssi_cycle.specs.Held.{IsHeld};
+    ghost use Rattle.ssi_cycle.specs.Held.{IsCoreInvariant};
 
     ghost Value = { Core };
 
@@ -62,7 +63,7 @@ impl Model for Interlocking {
       before = core.before;
     } };
 
-    ghost invariant = { λ core. IsHeld core.image core.state core.before core.has_acted core.waiting.items core.slot };
+    ghost invariant = { λ core. IsCoreInvariant core.image core.state core.before core.has_acted core.waiting.items core.slot };
 }
 
 impl Interlocking {
@@ -129,7 +130,7 @@ impl Interlocking {
     /// The value of each fact, by its number.
     pub fn state(&self) -> &State
         ensures state { result.now ≡ self.now.world.state }
-        ensures facts { length result.now ≡ fact_count_of (counts_of self.now.plan) }
+        ensures whole { IsStateOf (counts_of self.now.plan) result.now }
     {
         &self.state
     }
@@ -137,7 +138,7 @@ impl Interlocking {
     /// The values before the last minor cycle, or at the start where there was none.
     pub fn before(&self) -> &State
         ensures state { result.now ≡ self.now.before }
-        ensures facts { length result.now ≡ fact_count_of (counts_of self.now.plan) }
+        ensures whole { IsStateOf (counts_of self.now.plan) result.now }
     {
         &self.before
     }
@@ -147,7 +148,7 @@ impl Interlocking {
     #[inline(always)]
     pub fn next_change(&self, from: u16) -> Option<(u16, bool)>
         ensures change { IsNextChange self.now.before self.now.world.state from result }
-        ensures facts { length self.now.world.state ≡ fact_count_of (counts_of self.now.plan) }
+        ensures whole { IsStateOf (counts_of self.now.plan) self.now.world.state }
         ensures limits { IsWithinLimits (counts_of self.now.plan) }
     {
         if self.has_acted {

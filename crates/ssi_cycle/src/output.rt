@@ -2,7 +2,7 @@
 
 ghost use Rattle.std.specs.Prelude.{◌≡◌, ◌<◌, if◌then◌else◌, Some, length, slice_get};
 ghost use Rattle.ssi_identities.specs.DataSets.{ModulePlan, counts_of};
-ghost use Rattle.ssi_identities.specs.Facts.{fact_count_of};
+ghost use Rattle.ssi_identities.specs.States.{IsStateOf};
 ghost use Rattle.ssi_image.specs.Places.{output_of};
 ghost use Rattle.ssi_identities.specs.Wells.{IsWell};
 ghost use Rattle.ssi_cycle.specs.Outputs.{output_bit, output_byte, output_in};
@@ -18,7 +18,7 @@ const BITS: u8 = 8;
 
 /// A bit that goes to a module: 1 or 0.
 fn bit(image: &Image, module: u8, bit: u8, state: &State) -> u8
-    requires facts { length state.now ≡ fact_count_of (counts_of image.now) }
+    requires state { IsStateOf (counts_of image.now) state.now }
     ensures { result ≡ (if output_bit image.now state.now (output_of image.now «module» bit) then 1 else 0) }
 {
     let place = CondAt::Output { module, bit };
@@ -33,7 +33,7 @@ fn bit(image: &Image, module: u8, bit: u8, state: &State) -> u8
 fn byte(image: &Image, module: u8, state: &State) -> u8
     requires well { IsWell image.now }
     requires there { «module» < length image.now.modules }
-    requires facts { length state.now ≡ fact_count_of (counts_of image.now) }
+    requires state { IsStateOf (counts_of image.now) state.now }
     ensures { (row : ModulePlan) → slice_get image.now.modules «module» ≡ Some row
         → result ≡ output_byte image.now state.now row }
 {
@@ -47,7 +47,7 @@ fn byte(image: &Image, module: u8, state: &State) -> u8
 /// The telegram that goes out in a slot; none where the slot has no module.
 pub fn output(image: &Image, slot: u8, state: &State) -> Option<[u8; 4]>
     requires well { IsWell image.now }
-    requires facts { length state.now ≡ fact_count_of (counts_of image.now) }
+    requires state { IsStateOf (counts_of image.now) state.now }
     ensures { result ≡ output_in image.now slot state.now }
 {
     let module = image.module_at(slot)?;

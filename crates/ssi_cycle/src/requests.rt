@@ -2,7 +2,7 @@
 
 ghost use Rattle.std.specs.Prelude.{◌≡◌, ◌<◌, ◌↔◌, All, IsErr, IsTrue, None, drop, length};
 ghost use Rattle.ssi_identities.specs.DataSets.{counts_of};
-ghost use Rattle.ssi_identities.specs.Facts.{fact_count_of};
+ghost use Rattle.ssi_identities.specs.States.{IsStateOf};
 ghost use Rattle.ssi_cycle.specs.Requests.{after_request, is_full, taken_of, with_request};
 
 use crate::NO_REPORT;
@@ -48,7 +48,7 @@ pub fn serve(
     state: &mut State,
 ) -> Option<u16>
     requires there { All (λ request. request < length image.now.requests) waiting.old.items }
-    requires facts { length state.old ≡ fact_count_of (counts_of image.now) }
+    requires state { IsStateOf (counts_of image.now) state.old }
     ensures taken { result ≡ taken_of waiting.old.items }
     ensures rest { waiting.new.items ≡ drop 1 waiting.old.items }
     ensures effect { state.new ≡ after_request image.now (taken_of waiting.old.items) state.old }

@@ -2,10 +2,10 @@
 
 ghost use Rattle.std.specs.Prelude.{◌≡◌, ◌<◌, Some, length, slice_get};
 ghost use Rattle.ssi_identities.specs.DataSets.{ModulePlan, counts_of, names_in};
-ghost use Rattle.ssi_identities.specs.Facts.{count_of, fact_count_of};
-ghost use Rattle.ssi_identities.specs.Steps.{obey};
+ghost use Rattle.ssi_identities.specs.Facts.{count_of};
+ghost use Rattle.ssi_identities.specs.States.{IsStateOf, after_setting, after_settings};
 ghost use Rattle.ssi_identities.specs.Wells.{IsWell, wired_kind as kind_of_wired};
-ghost use Rattle.ssi_cycle.specs.Restrictions.{after_commands, command_of, restricted, restriction_of};
+ghost use Rattle.ssi_cycle.specs.Restrictions.{restricted, restriction_of, setting_of};
 
 use ssi_identities::{FactKind, Kind, fact_number};
 use ssi_image::Image;
@@ -28,8 +28,8 @@ fn wired_kind(kind: u8) -> Kind
 /// Gives a fact of an identity a value.
 fn set_fact(image: &Image, state: &mut State, kind: FactKind, index: u16, value: bool)
     requires within { index < count_of (counts_of image.now) kind }
-    requires facts { length state.old ≡ fact_count_of (counts_of image.now) }
-    ensures { state.new ≡ obey (command_of (counts_of image.now) kind index value) state.old }
+    requires state { IsStateOf (counts_of image.now) state.old }
+    ensures { state.new ≡ after_setting state.old (setting_of (counts_of image.now) kind index value) }
 {
     state.set(fact_number(&image.counts(), kind, index), value);
 }
@@ -37,8 +37,8 @@ fn set_fact(image: &Image, state: &mut State, kind: FactKind, index: u16, value:
 /// Restricts an identity: points become undetected in both lies, a lamp becomes unproved, a track becomes occupied.
 fn restrict_identity(image: &Image, state: &mut State, kind: Kind, index: u16)
     requires within { index < length (names_in image.now kind) }
-    requires facts { length state.old ≡ fact_count_of (counts_of image.now) }
-    ensures { state.new ≡ after_commands (restriction_of (counts_of image.now) kind index) state.old }
+    requires state { IsStateOf (counts_of image.now) state.old }
+    ensures { state.new ≡ after_settings state.old (restriction_of (counts_of image.now) kind index) }
 {
     match kind {
         Kind::Points => {
@@ -55,7 +55,7 @@ fn restrict_identity(image: &Image, state: &mut State, kind: Kind, index: u16)
 pub fn restrict(image: &Image, module: u8, state: &mut State)
     requires well { IsWell image.now }
     requires there { «module» < length image.now.modules }
-    requires facts { length state.old ≡ fact_count_of (counts_of image.now) }
+    requires state { IsStateOf (counts_of image.now) state.old }
     ensures { (row : ModulePlan) → slice_get image.now.modules «module» ≡ Some row
         → state.new ≡ restricted image.now row state.old }
 {

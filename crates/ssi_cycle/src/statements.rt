@@ -2,7 +2,7 @@
 
 ghost use Rattle.std.specs.Prelude.{◌≡◌, ◌<◌, ◌≤◌, ◌↔◌, false, length, IsTrue};
 ghost use Rattle.ssi_identities.specs.DataSets.{counts_of};
-ghost use Rattle.ssi_identities.specs.Facts.{fact_count_of};
+ghost use Rattle.ssi_identities.specs.States.{IsStateOf};
 ghost use Rattle.ssi_identities.specs.Wells.{IsWell};
 ghost use Rattle.ssi_cycle.specs.Statements.{after_statements, share_of as share_of_count, statements_in};
 
@@ -34,7 +34,7 @@ fn has_statements(image: &Image, slot: u8) -> bool
 fn act_in_turn(image: &Image, slot: u8, state: &mut State)
     requires well { IsWell image.now }
     requires slot { slot < 64 }
-    requires facts { length state.old ≡ fact_count_of (counts_of image.now) }
+    requires state { IsStateOf (counts_of image.now) state.old }
     ensures { state.new ≡ after_statements image.now (statements_in image.now.statements slot) state.old }
 {
     let count = image.statement_count();
@@ -52,7 +52,7 @@ fn act_in_turn(image: &Image, slot: u8, state: &mut State)
 pub fn run_statements(image: &Image, slot: u8, state: &mut State) -> bool
     requires well { IsWell image.now }
     requires slot { slot < 64 }
-    requires facts { length state.old ≡ fact_count_of (counts_of image.now) }
+    requires state { IsStateOf (counts_of image.now) state.old }
     ensures effect { state.new ≡ after_statements image.now (statements_in image.now.statements slot) state.old }
     ensures answer { IsTrue result ↔ (0 < length (statements_in image.now.statements slot)) }
     ensures none { result ≡ false → state.new ≡ state.old }

@@ -1,6 +1,6 @@
 -- What stands at the front of a body's code: an item of the kind that its first byte says.
 use Rattle.std.proofs.Common.{◌≡◌, ◌≢◌, ℕ, ◌+◌, ◌<◌, ◌^◌, max, Bool, true, ◌&&◌, List, ◌∷◌, ◌++◌, length, Option, Some, option_map, refl, sym, ap, subst, ◌∙◌, length-append, arith}
-use Rattle.std.specs.Prelude.{nat_le, slice_set}
+use Rattle.std.specs.Prelude.{nat_le}
 use Rattle.std.specs.Int.{w16, to_be_bytes}
 use Rattle.std.proofs.lemmas.Bool.{leb-true}
 use Rattle.ssi_identities.specs.declared.rule.Cmd.{Cmd}
@@ -11,7 +11,7 @@ use Rattle.ssi_identities.specs.Allowed.{BodyScope, is_within, cond_depth, part_
 use Rattle.ssi_identities.specs.Codes.{code_of_body, code_of_cond, else_code, with_length}
 use Rattle.ssi_identities.specs.DataSets.{Plan, counts_of}
 use Rattle.ssi_identities.specs.Facts.{fact_count_of}
-use Rattle.ssi_identities.specs.States.{State}
+use Rattle.ssi_identities.specs.States.{State, with_truth}
 use Rattle.ssi_identities.specs.Steps.{body_of, effect_of}
 use Rattle.ssi_identities.specs.Values.{value_of}
 use Rattle.ssi_identities.proofs.Bodies.{do_is, if_is, body_item_cases}
@@ -40,7 +40,7 @@ module _ (plan : Plan) (scope : BodyScope) (scope_in : IsBodyScopeIn plan scope)
     pub rest : List ℕ
     pub is : operand ≡ to_be_bytes w16 fact ++ rest
     pub known : fact < fact_count_of (counts_of plan)
-    pub on : LeavesFrom plan scope report rest frames (slice_set state fact value) last
+    pub on : LeavesFrom plan scope report rest frames (with_truth state fact value) last
 
   -- a choice
   pub record AtIf (operand : List ℕ) : Type 0 where

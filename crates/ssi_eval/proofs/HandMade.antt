@@ -10,7 +10,7 @@ use Rattle.ssi_identities.specs.declared.rule.CondItem.TheVariants.{Lit, Bit, An
 use Rattle.ssi_identities.specs.declared.rule.Cond.{Cond}
 use Rattle.ssi_identities.specs.Allowed.{greatest, item_within, cond_within, is_item_within, is_within, item_levels, cond_levels, item_depth, cond_depth}
 use Rattle.ssi_identities.specs.Codes.{code_of_cond, code_of_item, with_length}
-use Rattle.ssi_identities.specs.States.{State}
+use Rattle.ssi_identities.specs.States.{State, fact_total_of}
 use Rattle.ssi_identities.specs.Values.{Scene, bit_of, cond_of, holds_in}
 use Rattle.ssi_identities.proofs.Conditions.{lit_is, bit_is, any_is, cond_is}
 use Rattle.ssi_image.proofs.OpcodeBytes.{lit_code, bit_code, group_code}
@@ -129,7 +129,7 @@ pub record HandReading (state : State) (report : ℕ) (stack : List Frame) (leve
   pub on : GoesOn reading stack level true
   pub asks_none : (points : ℕ) (lie : Bool) → reading.scope.may_ask points lie ≡ true → ⊥
 
-pub hand_reading : (state : State) (report : ℕ) (stack : List Frame) (level : Frame) (code : List ℕ) → length state ≡ 4 → IsHandMade code → stack ≡ [] → level.items.now ≡ code → level.others.now ≡ [] → HandReading state report stack level
+pub hand_reading : (state : State) (report : ℕ) (stack : List Frame) (level : Frame) (code : List ℕ) → fact_total_of state ≡ 4 → IsHandMade code → stack ≡ [] → level.items.now ≡ code → level.others.now ≡ [] → HandReading state report stack level
 hand_reading state report stack level code facts made empty items others =
     let scene : Scene = record { state = state; bits = bit_of report; free = λ points lie. false } in
     record {

@@ -4,7 +4,7 @@ use Rattle.std.specs.Int.{w16, to_be_bytes}
 use mathlib.Core.Bool.{beq}
 use Rattle.ssi_identities.specs.Allowed.{CondScope}
 use Rattle.ssi_identities.specs.Codes.{IsShort, with_length}
-use Rattle.ssi_identities.specs.States.{State, truth_of}
+use Rattle.ssi_identities.specs.States.{State, fact_total_of, truth_of}
 use Rattle.ssi_identities.specs.Values.{Scene, bit_of, is_as_wanted}
 use Rattle.ssi_eval.specs.declared.frame.Frame.{Frame}
 use Rattle.ssi_image.specs.declared.opcode.CondOp.{CondOp}
@@ -50,7 +50,7 @@ module _ (scene : Scene) (scope : CondScope) (state : State) (report : ℕ) (loo
     (level next : Frame) (frames : List Frame) (result : Bool) (operand : List ℕ) (same_others : next.others.now ≡ level.others.now) where
   -- ---- a test of a fact
 
-  pub fact_known : (n : ℕ) (after : List ℕ) (wanted : Bool) → IsNumber operand n after → AtFact scene scope level frames result operand wanted → n < length state
+  pub fact_known : (n : ℕ) (after : List ℕ) (wanted : Bool) → IsNumber operand n after → AtFact scene scope level frames result operand wanted → n < fact_total_of state
   fact_known n after wanted number at =
       let few = looks.few in
       let facts = looks.facts in

@@ -1,13 +1,13 @@
 -- Each turn of a body's run keeps what its levels leave.
 use Rattle.std.proofs.Common.{◌≡◌, ◌≢◌, ℕ, ◌+◌, ◌<◌, ◌≤◌, Bool, true, false, List, [], ◌∷◌, ◌++◌, length, Option, refl, sym, ap, subst, ◌∙◌, length-append, arith}
-use Rattle.std.specs.Prelude.{reverse, slice_set}
+use Rattle.std.specs.Prelude.{reverse}
 use Rattle.ssi_identities.specs.declared.rule.Cond.{Cond}
 use Rattle.ssi_identities.specs.declared.rule.Body.{Body}
 use Rattle.ssi_identities.specs.Allowed.{BodyScope}
 use Rattle.ssi_identities.specs.Codes.{code_of_body, with_length}
 use Rattle.ssi_identities.specs.DataSets.{Plan, counts_of}
 use Rattle.ssi_identities.specs.Facts.{fact_count_of}
-use Rattle.ssi_identities.specs.States.{State}
+use Rattle.ssi_identities.specs.States.{State, with_truth}
 use Rattle.ssi_identities.specs.Steps.{effect_of}
 use Rattle.ssi_identities.specs.Values.{value_of}
 use Rattle.ssi_identities.specs.Wells.{IsWell}
@@ -73,12 +73,12 @@ module _ (plan : Plan) (scope : BodyScope) (scope_in : IsBodyScopeIn plan scope)
         let read = number at.fact at.rest (omega (arith, few, known)) at.is in
         omega (arith, known, read.0)
 
-    pub set_read : (n : ℕ) (after : List ℕ) (value : Bool) (next : State) → IsWell plan → IsNumber operand n after → next ≡ slice_set state n value → AtSet plan scope scope_in report frames state last operand value → LeavesFrom plan scope report after frames next last
+    pub set_read : (n : ℕ) (after : List ℕ) (value : Bool) (next : State) → IsWell plan → IsNumber operand n after → next ≡ with_truth state n value → AtSet plan scope scope_in report frames state last operand value → LeavesFrom plan scope report after frames next last
     set_read n after value next well number is at =
         let few = few_facts plan well in
         let known = at.known in
         let read = number at.fact at.rest (omega (arith, few, known)) at.is in
-        let same : slice_set state at.fact value ≡ next = ap (λ (m : ℕ). slice_set state m value) (sym read.0) ∙ sym is in
+        let same : with_truth state at.fact value ≡ next = ap (λ (m : ℕ). with_truth state m value) (sym read.0) ∙ sym is in
         subst (λ (code : List ℕ). LeavesFrom plan scope report code frames next last) (sym read.1) (subst (λ (s : State). LeavesFrom plan scope report at.rest frames s last) same at.on)
 
     -- ---- a choice

@@ -10,7 +10,7 @@ use Rattle.ssi_identities.specs.Allowed.{CondScope, IsWellCond}
 use Rattle.ssi_identities.specs.Codes.{code_of_cond}
 use Rattle.ssi_identities.specs.DataSets.{Plan, PointsPlan, counts_of}
 use Rattle.ssi_identities.specs.Facts.{fact_count_of}
-use Rattle.ssi_identities.specs.States.{State}
+use Rattle.ssi_identities.specs.States.{IsStateOf, State}
 use Rattle.ssi_identities.specs.Values.{Scene, bit_of, is_free, holds_in, item_holds, may_move, move_condition_of, move_scene, scene_of}
 use Rattle.ssi_identities.specs.Wells.{IsWell, IsWellPoints, scope_of_conds, scope_of_moves}
 use Rattle.ssi_identities.proofs.Values.{all_hold}
@@ -93,16 +93,16 @@ pub conds_scope : (plan : Plan) (bits : ℕ) → bits ≤ 8 → IsScopeIn plan (
 conds_scope plan bits few = record { facts = omega arith; bits = few; points = asked_known plan }
 
 -- what is looked at in a state of the data set
-looks : (plan : Plan) (scope : CondScope) (free : ℕ → Bool → Bool) (state : State) (report : ℕ) → IsWell plan → length state ≡ fact_count_of (counts_of plan) → IsScopeIn plan scope → LooksAt (record { state = state; bits = bit_of report; free = free }) scope state report
-looks plan scope free state report well facts scope_in =
+looks : (plan : Plan) (scope : CondScope) (free : ℕ → Bool → Bool) (state : State) (report : ℕ) → IsWell plan → IsStateOf (counts_of plan) state → IsScopeIn plan scope → LooksAt (record { state = state; bits = bit_of report; free = free }) scope state report
+looks plan scope free state report well whole scope_in =
     let few = few_facts plan well in
     record {
       state_is = refl;
       bits_are = refl;
-      facts = omega (arith, facts, scope_in.facts);
+      facts = omega (arith, whole.facts, scope_in.facts);
       bits = scope_in.bits;
       points = λ points lie asked. omega (arith, scope_in.points points lie asked, well.limits.points);
-      few = omega (arith, facts, few);
+      few = omega (arith, whole.facts, few);
     }
 
 -- where there is code of the own condition of points, the reading of that condition goes on from there: it gives whether they may be moved, and asks nothing
@@ -114,9 +114,9 @@ pub record MoveReading (plan : Plan) (state : State) (report points : ℕ) (lie 
   pub result : reading.result ≡ may_move state report (move_condition_of plan points lie)
   pub asks_none : (points : ℕ) (lie : Bool) → reading.scope.may_ask points lie ≡ true → ⊥
 
-pub move_reading : (plan : Plan) (state : State) (report points : ℕ) (lie : Bool) (base : ℕ) (stack : List Frame) (level : Frame) (code : List ℕ) → IsWell plan → length state ≡ fact_count_of (counts_of plan) → Some code ≡ option_map code_of_cond (move_condition_of plan points lie) → base ≡ length stack
+pub move_reading : (plan : Plan) (state : State) (report points : ℕ) (lie : Bool) (base : ℕ) (stack : List Frame) (level : Frame) (code : List ℕ) → IsWell plan → IsStateOf (counts_of plan) state → Some code ≡ option_map code_of_cond (move_condition_of plan points lie) → base ≡ length stack
     → level.items.now ≡ code → level.others.now ≡ [] → MoveReading plan state report points lie base stack level
-move_reading plan state report points lie base stack level code well facts shown at items others = by_cond (move_condition_of plan points lie) refl
+move_reading plan state report points lie base stack level code well whole shown at items others = by_cond (move_condition_of plan points lie) refl
   where
     by_cond : (move : Option Cond) → move_condition_of plan points lie ≡ move → MoveReading plan state report points lie base stack level
     by_cond None none = absurd (let no : Some code ≡ None = shown ∙ ap (option_map code_of_cond) none in cc)
@@ -127,7 +127,7 @@ move_reading plan state report points lie base stack level code well facts shown
           reading = record { scene = move_scene state report; scope = scope_of_moves plan; under = reverse stack; result = holds_in (move_scene state report) cond };
           fits = record {
             under = length-reverse stack ∙ sym at;
-            looks = looks plan (scope_of_moves plan) (λ points lie. false) state report well facts (moves_scope plan);
+            looks = looks plan (scope_of_moves plan) (λ points lie. false) state report well whole (moves_scope plan);
           };
           on = starts (move_scene state report) (scope_of_moves plan) cond stack level code (move_is_well plan points lie cond well there) is items others;
           under = refl;
@@ -137,8 +137,8 @@ move_reading plan state report points lie base stack level code well facts shown
 
 -- ---- a condition of the data set
 
-pub cond_fits : (plan : Plan) (scope : CondScope) (cond : Cond) (state : State) (report base : ℕ) (stack : List Frame) (code : List ℕ) → IsWell plan → length state ≡ fact_count_of (counts_of plan) → IsCondCode plan scope cond code → base ≡ length stack → Fits (reading_of plan scope cond state report stack) base state report
-cond_fits plan scope cond state report base stack code well facts is at = record { under = length-reverse stack ∙ sym at; looks = looks plan scope (is_free plan state report) state report well facts is.scope_in }
+pub cond_fits : (plan : Plan) (scope : CondScope) (cond : Cond) (state : State) (report base : ℕ) (stack : List Frame) (code : List ℕ) → IsWell plan → IsStateOf (counts_of plan) state → IsCondCode plan scope cond code → base ≡ length stack → Fits (reading_of plan scope cond state report stack) base state report
+cond_fits plan scope cond state report base stack code well whole is at = record { under = length-reverse stack ∙ sym at; looks = looks plan scope (is_free plan state report) state report well whole is.scope_in }
 
 pub cond_starts : (plan : Plan) (scope : CondScope) (cond : Cond) (state : State) (report : ℕ) (stack : List Frame) (level : Frame) (code : List ℕ) → IsCondCode plan scope cond code → level.items.now ≡ code → level.others.now ≡ [] → GoesOn (reading_of plan scope cond state report stack) stack level true
 cond_starts plan scope cond state report stack level code is items others = starts (scene_of plan state report) scope cond stack level code is.well is.is items others

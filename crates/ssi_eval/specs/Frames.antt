@@ -5,7 +5,7 @@ use Rattle.ssi_identities.specs.declared.rule.CondItem.{CondItem}
 use Rattle.ssi_identities.specs.declared.rule.Cond.{Cond}
 use Rattle.ssi_identities.specs.Allowed.{CondScope, greatest, is_item_within, is_within, item_depth, cond_depth}
 use Rattle.ssi_identities.specs.Codes.{IsShort, code_of_cond, code_of_item, with_length}
-use Rattle.ssi_identities.specs.States.{State}
+use Rattle.ssi_identities.specs.States.{State, fact_total_of}
 use Rattle.ssi_identities.specs.Values.{Scene, bit_of, holds_in, item_holds}
 use Rattle.ssi_eval.specs.declared.frame.Frame.{Frame}
 
@@ -60,10 +60,10 @@ pub record GoesOn (reading : Reading) (stack : List Frame) (level : Frame) (valu
 pub record LooksAt (scene : Scene) (scope : CondScope) (state : State) (report : ℕ) : Type 0 where
   pub state_is : scene.state ≡ state
   pub bits_are : scene.bits ≡ bit_of report
-  pub facts : scope.facts ≤ length state
+  pub facts : scope.facts ≤ fact_total_of state
   pub bits : scope.bits ≤ 8
   pub points : (points : ℕ) (lie : Bool) → scope.may_ask points lie ≡ true → points < 2 ^ 16
-  pub few : length state < 2 ^ 16
+  pub few : fact_total_of state < 2 ^ 16
 
 -- the reading looks at this state and this report, above so many frames
 pub record Fits (reading : Reading) (base : ℕ) (state : State) (report : ℕ) : Type 0 where

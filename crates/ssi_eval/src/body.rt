@@ -7,7 +7,7 @@ ghost use Rattle.ssi_identities.specs.declared.rule.Cond.{Cond};
 ghost use Rattle.ssi_identities.specs.Allowed.{BodyScope};
 ghost use Rattle.ssi_identities.specs.Codes.{code_of_body};
 ghost use Rattle.ssi_identities.specs.DataSets.{counts_of};
-ghost use Rattle.ssi_identities.specs.Facts.{fact_count_of};
+ghost use Rattle.ssi_identities.specs.States.{IsStateOf};
 ghost use Rattle.ssi_identities.specs.Steps.{effect_of};
 ghost use Rattle.ssi_identities.specs.Values.{value_of};
 ghost use Rattle.ssi_identities.specs.Wells.{IsWell};
@@ -30,7 +30,7 @@ fn branch<'a>(
 ) -> &'a [u8]
     requires room { array_vec_len stack.old ≤ 8 }
     requires well { IsWell image.now }
-    requires facts { length state.now ≡ fact_count_of (counts_of image.now) }
+    requires state { IsStateOf (counts_of image.now) state.now }
     requires choice { IsSomeChoiceCode image.now choice.now }
     ensures code { (scope : BodyScope) (guard : Cond) (then_body : Body) (else_body : Option Body)
         → IsChoiceCode image.now scope guard then_body else_body choice.now
@@ -59,7 +59,7 @@ pub fn run<'a>(
 )
     requires empty { stack.old.items ≡ [] }
     requires well { IsWell image.now }
-    requires facts { length state.old ≡ fact_count_of (counts_of image.now) }
+    requires state { IsStateOf (counts_of image.now) state.old }
     requires code { IsSomeBodyCode image.now code.now }
     ensures effect { (scope : BodyScope) (body : Body) → IsBodyCode image.now scope body code.now
         → state.new ≡ effect_of image.now body state.old report }

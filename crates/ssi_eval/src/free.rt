@@ -5,7 +5,7 @@ ghost use Rattle.arrayvec.specs.ArrayVec.{array_vec_len};
 ghost use Rattle.ssi_identities.specs.declared.rule.Cond.{Cond};
 ghost use Rattle.ssi_identities.specs.Allowed.{CondScope};
 ghost use Rattle.ssi_identities.specs.DataSets.{counts_of};
-ghost use Rattle.ssi_identities.specs.Facts.{fact_count_of};
+ghost use Rattle.ssi_identities.specs.States.{IsStateOf};
 ghost use Rattle.ssi_identities.specs.Values as spec;
 ghost use Rattle.ssi_identities.specs.Values.{move_condition_of, value_of};
 ghost use Rattle.ssi_identities.specs.Wells.{IsWell};
@@ -26,7 +26,7 @@ fn may_move<'a>(
     reverse: bool,
 ) -> bool
     requires room { array_vec_len stack.old ≤ 16 }
-    requires facts { length state.now ≡ fact_count_of (counts_of image.now) }
+    requires state { IsStateOf (counts_of image.now) state.now }
     ensures value { result
         ≡ spec.may_move state.now report (move_condition_of image.now points reverse) }
     ensures stack { stack.new.items ≡ stack.old.items }
@@ -51,7 +51,7 @@ fn is_free<'a>(
     reverse: bool,
 ) -> bool
     requires room { array_vec_len stack.old ≤ 16 }
-    requires facts { length state.now ≡ fact_count_of (counts_of image.now) }
+    requires state { IsStateOf (counts_of image.now) state.now }
     requires well { IsWell image.now }
     requires known { points < length image.now.points }
     ensures value { result ≡ spec.is_free image.now state.now report points reverse }
@@ -71,7 +71,7 @@ pub fn value<'a>(
 ) -> bool
     requires room { array_vec_len stack.old ≤ 8 }
     requires well { IsWell image.now }
-    requires facts { length state.now ≡ fact_count_of (counts_of image.now) }
+    requires state { IsStateOf (counts_of image.now) state.now }
     requires code { IsSomeCondCode image.now code.now }
     ensures value { (scope : CondScope) (cond : Cond) → IsCondCode image.now scope cond code.now
         → result ≡ value_of image.now cond state.now report }

@@ -5,7 +5,7 @@ ghost use Rattle.ssi_identities.specs.declared.rule.Body.{Body};
 ghost use Rattle.ssi_identities.specs.declared.rule.Cond.{Cond};
 ghost use Rattle.ssi_identities.specs.Codes.{code_of_cond};
 ghost use Rattle.ssi_identities.specs.DataSets.{counts_of};
-ghost use Rattle.ssi_identities.specs.Facts.{fact_count_of};
+ghost use Rattle.ssi_identities.specs.States.{IsStateOf};
 ghost use Rattle.ssi_identities.specs.Steps.{effect_of};
 ghost use Rattle.ssi_identities.specs.Values.{value_of};
 ghost use Rattle.ssi_identities.specs.Wells.{IsWell};
@@ -32,7 +32,7 @@ fn cond_code(image: &Image, place: CondAt) -> &[u8]
 /// The value of the condition at a place, in a state and with a report's byte.
 pub fn eval_cond(image: &Image, place: CondAt, state: &State, report: u8) -> bool
     requires there { is_some (cond_at image.now place) ≡ true }
-    requires facts { length state.now ≡ fact_count_of (counts_of image.now) }
+    requires state { IsStateOf (counts_of image.now) state.now }
     ensures { (cond : Cond) → cond_at image.now place ≡ Some cond
         → result ≡ value_of image.now cond state.now report }
 {
@@ -51,7 +51,7 @@ pub fn run_body_with<'a>(
 )
     requires empty { stack.old.items ≡ [] }
     requires there { is_some (body_at image.now place) ≡ true }
-    requires facts { length state.old ≡ fact_count_of (counts_of image.now) }
+    requires state { IsStateOf (counts_of image.now) state.old }
     ensures effect { (body : Body) → body_at image.now place ≡ Some body
         → state.new ≡ effect_of image.now body state.old report }
     ensures empty { stack.new.items ≡ [] }
@@ -77,7 +77,7 @@ pub fn run_body_with<'a>(
 /// Does what the body at a place does, in a state and with a report's byte.
 pub fn run_body(image: &Image, place: BodyAt, state: &mut State, report: u8)
     requires there { is_some (body_at image.now place) ≡ true }
-    requires facts { length state.old ≡ fact_count_of (counts_of image.now) }
+    requires state { IsStateOf (counts_of image.now) state.old }
     ensures { (body : Body) → body_at image.now place ≡ Some body
         → state.new ≡ effect_of image.now body state.old report }
 {

@@ -1,4 +1,5 @@
-ghost use Rattle.std.specs.Prelude.{◌≡◌, length, IfOk};
+ghost use Rattle.std.specs.Prelude.{◌≡◌, IfOk};
+ghost use Rattle.ssi_identities.specs.States.{fact_total_of};
 ghost use Rattle.ssi_eval.specs.HandMade.{IsHandMade};
 
 use crate::condition::{Turn, walk};
@@ -10,7 +11,7 @@ use std::test::Fail;
 
 /// The state with these values of four flags.
 fn flags(alloc: Global, values: [bool; 4]) -> Result<State, Fail>
-    ensures { IfOk result (λ state. length state ≡ 4) }
+    ensures { IfOk result (λ state. fact_total_of state ≡ 4) }
 {
     let counts = Counts {
         points: 0,
@@ -32,7 +33,7 @@ fn flags(alloc: Global, values: [bool; 4]) -> Result<State, Fail>
 
 /// The value of a condition of four flags and a report, by its code.
 fn value(code: &[u8], state: &State, report: u8) -> bool
-    requires facts { length state.now ≡ 4 }
+    requires facts { fact_total_of state.now ≡ 4 }
     requires code { IsHandMade code.now }
 {
     let mut stack = Stack::new();

@@ -8,8 +8,8 @@ use Rattle.std.specs.Option.{option_map}
 use Rattle.ssi_identities.specs.declared.fact.Counts.{Counts}
 use Rattle.ssi_identities.specs.declared.fact.FactKind.{FactKind}
 use Rattle.ssi_identities.specs.declared.fact.FactKind.TheVariants.{Reverse, DetectedNormal, DetectedReverse, Lamp, Occupied, RouteSet, RouteBarred, Locked, FlagSet}
-use Rattle.ssi_identities.specs.Facts.{Fact, count_of, fact_count_of, fact_number_of, facts_about, facts_of, facts_of_each}
-use Rattle.ssi_identities.specs.States.{is_true_at_start, start_of, truth_of}
+use Rattle.ssi_identities.specs.Facts.{Fact, count_of, fact_number_of, facts_about, facts_of, facts_of_each}
+use Rattle.ssi_identities.specs.States.{IsStateOf, is_true_at_start, start_of, truth_of}
 use Rattle.ssi_identities.proofs.FactOrder.{all_facts, fact, in_order}
 
 -- a fact's value at the start
@@ -17,14 +17,14 @@ abbrev pub at_start : Fact → Bool
 at_start fact = is_true_at_start fact.kind
 
 -- the state at the start has a value for each fact
-pub length_of_start : (counts : Counts) → length (start_of counts) ≡ fact_count_of counts
-length_of_start counts = length-map (facts_of counts) at_start ∙ all_facts counts
+pub state_at_start : (counts : Counts) → IsStateOf counts (start_of counts)
+state_at_start counts = record { facts = length-map (facts_of counts) at_start ∙ all_facts counts }
 
 -- each fact has its kind's value at the start
 pub value_at_start : (counts : Counts) (kind : FactKind) (index : ℕ) → index < count_of counts kind → truth_of (start_of counts) (fact_number_of counts kind index) ≡ is_true_at_start kind
 value_at_start counts kind index within =
     let number : ℕ = fact_number_of counts kind index in
-    get_or_from_slice_get (start_of counts) number (is_true_at_start kind) false (slice_get-map at_start (facts_of counts) number ∙ ap (option_map at_start) (in_order counts kind index within))
+    get_or_from_slice_get (start_of counts).facts number (is_true_at_start kind) false (slice_get-map at_start (facts_of counts) number ∙ ap (option_map at_start) (in_order counts kind index within))
 
 -- the facts of some identities on from one of them, where those of each have one value
 alike_from : (kinds : List FactKind) (value : Bool) → ((index : ℕ) → map at_start (facts_about kinds index) ≡ replicate (length kinds) value) → (a count : ℕ)
@@ -56,7 +56,7 @@ three_parts points signals tracks routes subs flags =
     rw (replicate-append-replicate points signals false, append_assoc first (replicate routes false) (replicate subs false), replicate-append-replicate routes subs false, append_assoc first (replicate (routes + subs) false) (replicate flags false), replicate-append-replicate (routes + subs) flags false) refl
 
 -- the state at the start is false before the tracks and after them
-pub start_is : (counts : Counts) → start_of counts
+pub start_is : (counts : Counts) → (start_of counts).facts
     ≡ replicate (3 * counts.points + counts.signals) false ++ replicate counts.tracks true ++ replicate (2 * counts.routes + counts.subs + counts.flags) false
 start_is counts =
     six_parts (facts_of_each (Reverse ∷ DetectedNormal ∷ DetectedReverse ∷ []) counts.points) (facts_of_each (Lamp ∷ []) counts.signals) (facts_of_each (Occupied ∷ []) counts.tracks)

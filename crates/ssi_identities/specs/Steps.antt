@@ -1,17 +1,26 @@
 -- What a body makes of a state: the steps of its commands, and the state after the last of them.
-use Rattle.std.specs.Prelude.{ℕ, ◌+◌, Bool, true, if◌then◌else◌, List, [], ◌∷◌, ◌++◌, Option, Some, None, slice_set}
+use Rattle.std.specs.Prelude.{ℕ, ◌+◌, Bool, true, if◌then◌else◌, List, [], ◌∷◌, ◌++◌, Option, Some, None}
 use Rattle.ssi_identities.specs.declared.rule.Cmd.{Cmd}
 use Rattle.ssi_identities.specs.declared.rule.Cond.{Cond}
 use Rattle.ssi_identities.specs.declared.rule.BodyItem.{BodyItem, fold-BodyItem}
 use Rattle.ssi_identities.specs.declared.rule.BodyItem.TheOpen.{BodyItem-F, Body-F}
 use Rattle.ssi_identities.specs.declared.rule.Body.{Body, fold-Body}
 use Rattle.ssi_identities.specs.DataSets.{Plan}
-use Rattle.ssi_identities.specs.States.{State}
+use Rattle.ssi_identities.specs.States.{State, Setting, after_setting}
 use Rattle.ssi_identities.specs.Values.{value_of}
 
--- a command gives its fact its value; past the end of the state it does nothing
+-- what a command sets: its fact, to its value
+abbrev pub sets : Cmd → Option Setting
+sets command = Some (record { fact = command.fact; value = command.value })
+
+-- the state in which a fact has got its value, where there is one to be set
+abbrev pub after_one : State → Option Setting → State
+after_one state None = state
+after_one state (Some setting) = after_setting state setting
+
+-- a command sets what it says
 abbrev pub obey : Cmd → State → State
-obey command state = slice_set state command.fact command.value
+obey command state = after_one state (sets command)
 
 -- what one command did: the states before and after it, and its number among the commands of its body
 pub record Step : Type 0 where

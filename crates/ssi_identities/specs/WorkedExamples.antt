@@ -17,7 +17,7 @@ two_flags = record { points = []; signals = []; tracks = []; routes = []; subs =
 
 -- the state in which L1 and L2 are as given
 abbrev pub flags : Bool → Bool → State
-flags l1 l2 = l1 ∷ l2 ∷ []
+flags l1 l2 = record { facts = l1 ∷ l2 ∷ [] }
 
 -- 'L1 s' or 'L1 xs' as a condition
 abbrev pub l1_is : Bool → Cond
@@ -66,7 +66,7 @@ points_and_flag = record {
 
 -- the state in which P1 and P2 are controlled reverse or not, and L1 is set or not
 abbrev pub points_are : Bool → Bool → Bool → State
-points_are p1 p2 l1 = p1 ∷ false ∷ false ∷ p2 ∷ false ∷ false ∷ l1 ∷ []
+points_are p1 p2 l1 = record { facts = p1 ∷ false ∷ false ∷ p2 ∷ false ∷ false ∷ l1 ∷ [] }
 
 -- 'P1 crf' or 'P1 cnf' and the like as a condition
 abbrev pub free_to : ℕ → Bool → Cond

@@ -20,8 +20,8 @@ one_of_each = record {
 
 -- each of the nine facts has this value
 abbrev pub all_are : Bool → State
-all_are value = replicate 9 value
+all_are value = record { facts = replicate 9 value }
 
 -- points commanded normal and detected so, a proved lamp, a clear track, a route set, a locked sub-route and a flag
 abbrev pub mixed : State
-mixed = false ∷ true ∷ false ∷ true ∷ false ∷ true ∷ false ∷ true ∷ true ∷ []
+mixed = record { facts = false ∷ true ∷ false ∷ true ∷ false ∷ true ∷ false ∷ true ∷ true ∷ [] }

@@ -1,9 +1,10 @@
 //! The changed facts of a minor cycle.
 
-ghost use Rattle.std.specs.Prelude.{◌≡◌, ◌<◌, length, true, false, codes, []};
+ghost use Rattle.std.specs.Prelude.{◌≡◌, ◌<◌, true, false, codes, []};
 ghost use Rattle.ssi_base.specs.Streams.{Writes};
 ghost use Rattle.ssi_identities.specs.DataSets.{counts_of};
 ghost use Rattle.ssi_identities.specs.Facts.{IsWithinLimits, fact_count_of};
+ghost use Rattle.ssi_identities.specs.States.{IsStateOf};
 ghost use Rattle.ssi_state.specs.Changes.{IsNextChange};
 ghost use Rattle.ssi_script.specs.Lines.{changes_of, fact_at, fact_text};
 ghost use Rattle.ssi_script.specs.WorkedChanges.{all_are, mixed, one_of_each};
@@ -53,7 +54,7 @@ pub fn write_changes<K: Sink>(
     first: Option<(u16, bool)>,
 ) -> Result<(), Failed>
     requires first { IsNextChange core.now.before core.now.world.state 0 first }
-    requires facts { length core.now.world.state ≡ fact_count_of (counts_of core.now.plan) }
+    requires whole { IsStateOf (counts_of core.now.plan) core.now.world.state }
     requires limits { IsWithinLimits (counts_of core.now.plan) }
     ensures { Writes (K.written sink.old) (K.written sink.new) (K.faults sink.old) (K.faults sink.new)
         (changes_of core.now.plan core.now.before core.now.world.state) result }

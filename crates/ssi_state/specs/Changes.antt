@@ -1,6 +1,6 @@
 -- Which fact of a state changes next.
-use Rattle.std.specs.Prelude.{◌≡◌, ℕ, ◌<◌, ◌≤◌, Bool, length, Option, Some, None}
-use Rattle.ssi_identities.specs.States.{State, truth_of}
+use Rattle.std.specs.Prelude.{◌≡◌, ℕ, ◌<◌, ◌≤◌, Bool, Option, Some, None}
+use Rattle.ssi_identities.specs.States.{State, fact_total_of, truth_of}
 
 -- the fact has the value that it had before
 abbrev pub IsUnchanged : State → State → ℕ → Type 0
@@ -9,7 +9,7 @@ IsUnchanged before after fact = truth_of before fact ≡ truth_of after fact
 -- the first fact at or past `from` that has changed, with its value now
 pub record IsFirstChange (before after : State) (from fact : ℕ) (value : Bool) : Type 0 where
   pub reached : from ≤ fact
-  pub within : fact < length after
+  pub within : fact < fact_total_of after
   pub value_is : value ≡ truth_of after fact
   pub changed : ¬ IsUnchanged before after fact
   pub none_between : (other : ℕ) → from ≤ other → other < fact → IsUnchanged before after other

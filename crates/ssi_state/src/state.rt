@@ -1,8 +1,8 @@
 //! States.
 
-ghost use Rattle.std.specs.Prelude.{◌≡◌, ℕ, ◌<◌, ◌≤◌, length, take, slice_set, IfOk};
+ghost use Rattle.std.specs.Prelude.{◌≡◌, ℕ, ◌<◌, ◌≤◌, length, take, IfOk};
 ghost use Rattle.ssi_identities.specs.Facts.{IsWithinLimits};
-ghost use Rattle.ssi_identities.specs.States.{start_of, truth_of};
+ghost use Rattle.ssi_identities.specs.States.{fact_total_of, start_of, truth_of, with_truth};
 ghost use Rattle.ssi_state.specs.Changes.{IsNextChange, IsUnchanged};
 
 use ssi_base::OutOfMemory;
@@ -28,7 +28,7 @@ impl Model for State {
 
     ghost Value = { Values };
 
-    ghost view = { λ state. state.values.items };
+    ghost view = { λ state. record { facts = state.values.items } };
 
     ghost invariant = { λ state. length state.values.items < 65536 };
 }
@@ -45,7 +45,7 @@ impl State {
 
     /// How many facts it has.
     pub fn len(&self) -> u16
-        ensures { result ≡ length self.now }
+        ensures { result ≡ fact_total_of self.now }
     {
         self.values.len() as u16
     }
@@ -53,7 +53,7 @@ impl State {
     /// Whether a fact is true.
     #[inline]
     pub fn get(&self, fact: u16) -> bool
-        requires { fact < length self.now }
+        requires { fact < fact_total_of self.now }
         ensures { result ≡ truth_of self.now fact }
     {
         self.values[usize::from(fact)]
@@ -62,15 +62,15 @@ impl State {
     /// Gives a fact a value.
     #[inline]
     pub fn set(&mut self, fact: u16, value: bool)
-        requires { fact < length self.old }
-        ensures { self.new ≡ slice_set self.old fact value }
+        requires { fact < fact_total_of self.old }
+        ensures { self.new ≡ with_truth self.old fact value }
     {
         self.values[usize::from(fact)] = value;
     }
 
     /// Takes over the values of another state of as many facts.
     pub fn copy_from(&mut self, other: &State)
-        requires { length self.old ≡ length other.now }
+        requires { fact_total_of self.old ≡ fact_total_of other.now }
         ensures { self.new ≡ other.now }
     {
         self.values.copy_from_slice(&other.values);
@@ -79,7 +79,7 @@ impl State {
     /// The first fact at or past `from` whose value differs from the one that it had before, and its value now; none
     /// where none differs.
     pub fn next_change(&self, before: &State, from: u16) -> Option<(u16, bool)>
-        requires { length before.now ≡ length self.now }
+        requires { fact_total_of before.now ≡ fact_total_of self.now }
         ensures { IsNextChange before.now self.now from result }
     {
         let near = self.past_equal_blocks(before, from);
@@ -95,7 +95,7 @@ impl State {
     /// A fact at or past `from`, with none between them that differs from before. Long blocks pass what is equal, and
     /// short ones leave few facts to look at one by one.
     fn past_equal_blocks(&self, before: &State, from: u16) -> u16
-        requires { length before.now ≡ length self.now }
+        requires { fact_total_of before.now ≡ fact_total_of self.now }
         ensures reached { from ≤ result }
         ensures unchanged { (fact : ℕ) → from ≤ fact → fact < result → IsUnchanged before.now self.now fact }
     {

@@ -1,8 +1,9 @@
 use Rattle.std.proofs.Common.{◌≡◌, ap, sym, subst, ◌<◌, length, ◌∙◌, arith}
 use Rattle.ssi_identities.specs.DataSets.{counts_of, names_in}
 use Rattle.ssi_identities.specs.Wells.{wired_kind}
-use Rattle.ssi_cycle.specs.Restrictions.{after_commands, pin_restriction, restriction_of}
-use Rattle.ssi_cycle.proofs.Lengths.{commands_length}
+use Rattle.ssi_identities.specs.States.{IsStateOf, after_settings}
+use Rattle.ssi_identities.proofs.States.{keeps_after_settings}
+use Rattle.ssi_cycle.specs.Restrictions.{pin_restriction, restriction_of}
 use Rattle.ssi_cycle.proofs.Modules.{row_at, row_is_well}
 use Rattle.ssi_cycle.proofs.Restricting.{kind_of_row, no_pin_left, pin_next, restriction_from, wired_there}
 use Rattle.ssi_cycle.proofs.restriction.restrict.Goals as goal
@@ -24,16 +25,16 @@ loop-pin-preserved c =
       | in-Some w ↦ record {
         left = λ row there.
             let kind = kind_of_row plan c.args.«module» row there c.kind.result c.wired_kind-kind.result c.kind.ensures c.wired_kind-kind.ensures in
-            let done = w.state-is ∙ w.restrict_identity.ensures ∙ ap (λ k. after_commands (restriction_of (counts_of plan) k w.in-Some.identity) c.loop-pin.state) kind
-            ∙ ap (λ wired. after_commands (pin_restriction (counts_of plan) (wired_kind row.kind) wired) c.loop-pin.state) (sym w.in-Some.is) in
+            let done = w.state-is ∙ w.restrict_identity.ensures ∙ ap (λ k. after_settings c.loop-pin.state (restriction_of (counts_of plan) k w.in-Some.identity)) kind
+            ∙ ap (λ wired. after_settings c.loop-pin.state (pin_restriction (counts_of plan) (wired_kind row.kind) wired)) (sym w.in-Some.is) in
             sym (pin_next plan c.args.«module» row there c.loop-pin.pin c.pin.result c.loop-pin.state c.match-pin.state c.pin.ensures done) ∙ c.loop-pin.invariant.left row there;
-        facts = ap length (w.state-is ∙ w.restrict_identity.ensures) ∙ commands_length (restriction_of (counts_of plan) c.wired_kind-kind.result w.in-Some.identity) c.loop-pin.state ∙ c.loop-pin.invariant.facts;
+        state = subst (IsStateOf (counts_of plan)) (sym (w.state-is ∙ w.restrict_identity.ensures)) (keeps_after_settings (counts_of plan) (restriction_of (counts_of plan) c.wired_kind-kind.result w.in-Some.identity) c.loop-pin.state c.loop-pin.invariant.state);
       }
       | in_default w ↦ record {
         left = λ row there.
-            let done = w.state-is ∙ ap (λ wired. after_commands (pin_restriction (counts_of plan) (wired_kind row.kind) wired) c.loop-pin.state) (sym w.in_default.is) in
+            let done = w.state-is ∙ ap (λ wired. after_settings c.loop-pin.state (pin_restriction (counts_of plan) (wired_kind row.kind) wired)) (sym w.in_default.is) in
             sym (pin_next plan c.args.«module» row there c.loop-pin.pin c.pin.result c.loop-pin.state c.match-pin.state c.pin.ensures done) ∙ c.loop-pin.invariant.left row there;
-        facts = ap length w.state-is ∙ c.loop-pin.invariant.facts;
+        state = subst (IsStateOf (counts_of plan)) (sym w.state-is) c.loop-pin.invariant.state;
       }
     ]
 
@@ -42,4 +43,4 @@ returns c = λ row there.
     let plan = c.args.image.now in
     let end : c.loop-pin.pin ≡ 8 = omega (arith, c.loop-pin.auto, c.loop-pin-test.false) in
     sym (no_pin_left plan row (row_is_well plan c.args.«module» row c.requires.well there) c.loop-pin.state)
-    ∙ ap (λ pin. after_commands (restriction_from plan row pin) c.loop-pin.state) (sym end) ∙ c.loop-pin.invariant.left row there
+    ∙ ap (λ pin. after_settings c.loop-pin.state (restriction_from plan row pin)) (sym end) ∙ c.loop-pin.invariant.left row there

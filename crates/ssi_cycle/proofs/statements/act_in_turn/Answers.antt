@@ -13,7 +13,7 @@ loop-number-preserved c =
     let acts = c.run_body_with.ensures.effect in
     record {
       left = sym (statement_next plan c.loop-number.number c.min-end.result c.loop-number.state c.run_body_with.new.state c.loop-number-test.true reach acts) ∙ c.loop-number.invariant.left;
-      facts = statement_keeps plan c.loop-number.number c.loop-number.state c.run_body_with.new.state (omega arith) acts ∙ c.loop-number.invariant.facts;
+      state = statement_keeps plan c.loop-number.number c.loop-number.state c.run_body_with.new.state (omega arith) acts c.loop-number.invariant.state;
       empty = c.run_body_with.ensures.empty;
     }
 

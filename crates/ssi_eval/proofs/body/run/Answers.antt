@@ -1,8 +1,11 @@
-use Rattle.std.proofs.Common.{◌∙◌, ap, length, length-append, length-set, arith}
+use Rattle.std.proofs.Common.{◌∙◌, ap, length, length-append, sym, subst, arith}
 use Rattle.std.specs.List.{sum_by}
 use Rattle.std.specs.Prelude.{reverse}
 use Rattle.std.proofs.lemmas.List.{length-reverse}
 use Rattle.std.proofs.lemmas.List.Sums.{sum_by_push}
+use Rattle.ssi_identities.specs.DataSets.{counts_of}
+use Rattle.ssi_identities.specs.States.{IsStateOf}
+use Rattle.ssi_identities.proofs.States.{keeps_with_truth}
 use Rattle.ssi_eval.specs.Frames.{bytes_left}
 use Rattle.ssi_eval.proofs.BodyFronts.{kind_at}
 use Rattle.ssi_eval.proofs.Choices.{is_nil, is_some_left}
@@ -11,7 +14,7 @@ use Rattle.ssi_eval.proofs.body.run.Goals as goal
 
 pub run-init : goal.run-init
 run-init c = record {
-  facts = c.requires.facts;
+  state = c.requires.state;
   on = λ scope body is. starts c.args.image.now scope c.args.report body c.args.code.now c.args.stack.now.items c.args.state.now c.requires.empty is;
 }
 
@@ -20,7 +23,7 @@ returns-in_default-clause-effect c = λ scope body is. finished c.args.image.now
 
 pub run-preserved-then-is_empty : goal.run-preserved-then-is_empty
 run-preserved-then-is_empty c = record {
-  facts = c.run.invariant.facts;
+  state = c.run.invariant.state;
   on = λ scope body is. left c.args.image.now scope c.args.report c.run.items.now c.run.stack.items c.pop.new.self.items c.in-Some.outer c.run.state _ c.in-Some.ensures.items (is_nil _ _ c.is_empty.ensures c.if-is_empty.true) (c.run.invariant.on scope body is);
 }
 
@@ -39,11 +42,11 @@ pub set-requires : goal.set-requires
 set-requires c =
     let k = c.requires.code in
     let at = kind_at c.args.image.now k.scope k.is.scope_in c.args.report (reverse c.run.stack.items) c.run.state _ c.run.items.now c.body_op-op.result.1.now c.body_op-op.result.0 _ c.body_op-op.ensures c.in-Set.is (c.run.invariant.on k.scope k.body k.is) in
-    omega (arith, c.run.invariant.facts, set_known c.args.image.now k.scope k.is.scope_in c.args.report (reverse c.run.stack.items) c.run.state _ c.body_op-op.result.1.now c.number-fact.result.0 c.number-fact.result.1.now _ c.requires.well c.number-fact.ensures.value at)
+    omega (arith, c.run.invariant.state.facts, set_known c.args.image.now k.scope k.is.scope_in c.args.report (reverse c.run.stack.items) c.run.state _ c.body_op-op.result.1.now c.number-fact.result.0 c.number-fact.result.1.now _ c.requires.well c.number-fact.ensures.value at)
 
 pub run-preserved-in-Set : goal.run-preserved-in-Set
 run-preserved-in-Set c = record {
-  facts = ap length c.set.ensures ∙ length-set c.run.state c.number-fact.result.0 c.in-Set.value ∙ c.run.invariant.facts;
+  state = subst (IsStateOf (counts_of c.args.image.now)) (sym c.set.ensures) (keeps_with_truth (counts_of c.args.image.now) c.run.state c.number-fact.result.0 c.in-Set.value c.run.invariant.state);
   on = λ scope body is.
       let at = kind_at c.args.image.now scope is.scope_in c.args.report (reverse c.run.stack.items) c.run.state _ c.run.items.now c.body_op-op.result.1.now c.body_op-op.result.0 _ c.body_op-op.ensures c.in-Set.is (c.run.invariant.on scope body is) in
       set_read c.args.image.now scope is.scope_in c.args.report (reverse c.run.stack.items) c.run.state _ c.body_op-op.result.1.now c.number-fact.result.0 c.number-fact.result.1.now c.in-Set.value c.set.new.self c.requires.well c.number-fact.ensures.value c.set.ensures at;
@@ -83,7 +86,7 @@ run-smaller c =
 
 pub run-preserved : goal.run-preserved
 run-preserved c = record {
-  facts = c.run.invariant.facts;
+  state = c.run.invariant.state;
   on = λ scope body is.
       let at = kind_at c.args.image.now scope is.scope_in c.args.report (reverse c.run.stack.items) c.run.state _ c.run.items.now c.body_op-op.result.1.now c.body_op-op.result.0 _ c.body_op-op.ensures c.in-If.is (c.run.invariant.on scope body is) in
       let on = if_read c.args.image.now scope is.scope_in c.args.report (reverse c.run.stack.items) c.run.state _ c.body_op-op.result.1.now at c.piece.result.0.now c.piece.result.1.now c.piece.ensures c.branch-items.result.now c.branch-items.ensures.code c.of.result c.of.ensures.items in

@@ -12,7 +12,7 @@ pub returns-in_err-write_numbered : goal.returns-in_err-write_numbered
 returns-in_err-write_numbered g c =
     let core = c.args.core.now in
     let found = change_found core.before core.world.state c.changes.from c.changes.next c.in-Some.fact c.in-Some.value (grind arith) c.changes.invariant.next in
-    let text = next_text core.plan core.before core.world.state c.requires.facts c.changes.from c.in-Some.fact c.in-Some.value found in
+    let text = next_text core.plan core.before core.world.state c.requires.whole c.changes.from c.in-Some.fact c.in-Some.value found in
     let rest = flat_map (change_of core.plan core.before core.world.state) (drop (c.in-Some.fact + 1) (facts_of (counts_of core.plan))) in
     let shown = ap (λ (plan : Plan). fact_text plan (fact_at (counts_of plan) c.in-Some.fact) c.in-Some.value ++ rest) (sym c.image.ensures) in
     let whole = text ∙ shown in
@@ -22,7 +22,7 @@ pub changes-preserved : goal.changes-preserved
 changes-preserved g c =
     let core = c.args.core.now in
     let found = change_found core.before core.world.state c.changes.from c.changes.next c.in-Some.fact c.in-Some.value (grind arith) c.changes.invariant.next in
-    let text = next_text core.plan core.before core.world.state c.requires.facts c.changes.from c.in-Some.fact c.in-Some.value found in
+    let text = next_text core.plan core.before core.world.state c.requires.whole c.changes.from c.in-Some.fact c.in-Some.value found in
     let rest = flat_map (change_of core.plan core.before core.world.state) (drop (c.in-Some.fact + 1) (facts_of (counts_of core.plan))) in
     let shown = ap (λ (plan : Plan). fact_text plan (fact_at (counts_of plan) c.in-Some.fact) c.in-Some.value ++ rest) (sym c.image.ensures) in
     let whole = text ∙ shown in
@@ -36,5 +36,5 @@ pub returns : goal.returns
 returns g c =
     let core = c.args.core.now in
     let same = none_found core.before core.world.state c.changes.from c.changes.next (grind arith) c.changes.invariant.next in
-    let none = no_text core.plan core.before core.world.state c.requires.facts c.changes.from c.changes.invariant.within same in
+    let none = no_text core.plan core.before core.world.state c.requires.whole c.changes.from c.changes.invariant.within same in
     none_left (rw none at c.changes.invariant.left)

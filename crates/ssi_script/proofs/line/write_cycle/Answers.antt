@@ -10,7 +10,7 @@ returns-then-end_idle_line g c =
     let idle = c.if-end_idle_line.ensures.idle refl in
     let passed = c.is_idle-is_idle.ensures.passed idle core.plan in
     let found = c.next_change-change in
-    let changes = unchanged_text core.plan core.before core.world.state found.ensures.facts found.result found.ensures.change (c.is_idle-is_idle.ensures.changed idle) in
+    let changes = unchanged_text core.plan core.before core.world.state found.ensures.whole found.result found.ensures.change (c.is_idle-is_idle.ensures.changed idle) in
     rw (passed, changes, append-nil, append_assoc) (rw (c.as_slice.ensures.value, c.if-end_idle_line.ensures.line, c.decimal-line.ensures) at c.write_all.ensures.written)
 
 pub returns-in_err-write_passed : goal.returns-in_err-write_passed
