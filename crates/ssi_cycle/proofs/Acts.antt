@@ -1,5 +1,5 @@
 -- What holds of every body's steps: each begins where the one before it ended, and its command makes it.
-use Rattle.std.proofs.Common.{◌≡◌, ℕ, ◌+◌, Bool, true, false, List, [], ◌∷◌, ◌++◌, map, Some, None, refl, ap, sym, subst, ◌∙◌}
+use Rattle.std.proofs.Common.{◌≡◌, ℕ, ◌+◌, Bool, true, false, List, [], ◌∷◌, ◌++◌, map, Some, None, refl, sym, subst}
 use Rattle.std.specs.Prelude.{⊤, if◌then◌else◌}
 use Rattle.std.specs.List.{AllByRecursion}
 use Rattle.ssi_identities.specs.declared.fact.Counts.{Counts}
@@ -7,7 +7,7 @@ use Rattle.ssi_identities.specs.declared.rule.BodyItem.{BodyItem}
 use Rattle.ssi_identities.specs.declared.rule.Body.{Body}
 use Rattle.ssi_identities.specs.DataSets.{Plan}
 use Rattle.ssi_identities.specs.States.{IsStateOf, State}
-use Rattle.ssi_identities.specs.Steps.{Step, Act, Valuation, act_of, act_of_item, after_steps, choice_act, effect_of, guards_of, in_turn, no_act, obey, one_then, steps_of}
+use Rattle.ssi_identities.specs.Steps.{Step, Act, Valuation, act_of, act_of_item, after_steps, choice_act, guards_of, in_turn, no_act, obey, one_then, steps_of}
 use Rattle.ssi_identities.proofs.Acts.{act_of_body, act_of_do, act_of_if}
 use Rattle.ssi_identities.proofs.Bodies.{body_induction}
 use Rattle.ssi_identities.proofs.States.{keeps_obeyed}
@@ -58,15 +58,6 @@ steady_body holds = body_induction (λ item. IsSteady (act_of_item holds item)) 
 pub steps_linked : (plan : Plan) (body : Body) (state : State) (report : ℕ) → AreLinked state (steps_of plan body state report)
 steps_linked plan body state report = (steady_body (guards_of plan report) body).linked 0 state
 
-module _ (counts : Counts) where
-  -- what linked steps begin with, and all that they leave, is of the layout
-  pub step_keeps : (state : State) (step : Step) → step.before ≡ state → step.after ≡ obey step.command step.before → IsStateOf counts state → IsStateOf counts step.after
-  step_keeps state step from made of = subst (IsStateOf counts) (sym made) (keeps_obeyed counts step.command step.before (subst (IsStateOf counts) (sym from) of))
-
-  steps_keep : (state : State) (steps : List Step) → AreLinked state steps → IsStateOf counts state → IsStateOf counts (after_steps state steps)
-  steps_keep state [] linked of = of
-  steps_keep state (step ∷ steps) linked of = steps_keep step.after steps linked.2 (step_keeps state step linked.0 linked.1 of)
-
-  -- a body leaves a state of the layout
-  pub effect_keeps : (plan : Plan) (body : Body) (state : State) (report : ℕ) → IsStateOf counts state → IsStateOf counts (effect_of plan body state report)
-  effect_keeps plan body state report of = steps_keep state (steps_of plan body state report) (steps_linked plan body state report) of
+-- a linked step leads from a state of a layout to one
+pub step_keeps : (counts : Counts) (state : State) (step : Step) → step.before ≡ state → step.after ≡ obey step.command step.before → IsStateOf counts state → IsStateOf counts step.after
+step_keeps counts state step from made of = subst (IsStateOf counts) (sym made) (keeps_obeyed counts step.command step.before (subst (IsStateOf counts) (sym from) of))

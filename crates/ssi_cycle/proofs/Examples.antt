@@ -8,9 +8,9 @@ use Rattle.ssi_identities.proofs.Acts.{act_of_body, act_of_do, act_of_if, left_b
 use Rattle.ssi_identities.proofs.Values.{all_hold, bit_holds, fact_holds, lit_holds}
 use Rattle.ssi_image.specs.Places.{body_of_statement}
 use Rattle.ssi_cycle.specs.Outputs.{byte_of, output_byte}
-use Rattle.ssi_cycle.specs.Worlds.{World, Event, after_event}
+use Rattle.ssi_cycle.specs.Worlds.{World, Event, after_event, deeds_of_event}
 use Rattle.ssi_cycle.specs.Worlds.Event.{Minor}
-use Rattle.ssi_cycle.specs.Moments.{Change, changes_of_event, changes_of_events}
+use Rattle.ssi_cycle.specs.Moments.{Change, changes_of_deeds, changes_of_events}
 use Rattle.ssi_cycle.specs.Moments.Change.{Stepped}
 use Rattle.ssi_cycle.specs.Worked.{bit_0_high, gives_t1, in_slot, l1_set_and_t1_clear, module_of_t1, notes_t1, one_track, reads_t1, set_l1, set_l2, t1_becomes, t1_clear}
 
@@ -67,15 +67,15 @@ pub gives : (state : State) → effect_of one_track gives_t1 state 0 ≡ left_by
 gives state = ap (λ act. left_by act state) (gives_by (guards_of one_track 0) ∙ ap (λ guard. may_act guard (command_act set_l2)) (fun_ext both_hold))
 
 -- the changes of an event, and then those of the events after it
-pub changes_then : (world next : World) (event : Event) (events : List Event) (now : List Change) → changes_of_event one_track world event ≡ now → after_event one_track world event ≡ next
+pub changes_then : (world next : World) (event : Event) (events : List Event) (now : List Change) → changes_of_deeds one_track world.state (deeds_of_event one_track world event) ≡ now → after_event one_track world event ≡ next
     → changes_of_events one_track world (event ∷ events) ≡ now ++ changes_of_events one_track next events
 changes_then world next event events now is leaves =
     ap (λ changes. changes ++ changes_of_events one_track (after_event one_track world event) events) is ∙ ap (λ world. now ++ changes_of_events one_track world events) leaves
 
 -- those of slot 0 are the statement's
-pub changes_of_notes : (state : State) → changes_of_event one_track (in_slot 0 state []) (Minor None) ≡ (map Stepped ((may_act (λ state. not (truth_of state 0) && true) (command_act set_l1)).steps 0 state) ++ []) ++ []
-changes_of_notes state = ap (λ act. (map Stepped (act.steps 0 state) ++ []) ++ []) notes_in
+pub changes_of_notes : (state : State) → changes_of_deeds one_track state (deeds_of_event one_track (in_slot 0 state []) (Minor None)) ≡ map Stepped ((may_act (λ state. not (truth_of state 0) && true) (command_act set_l1)).steps 0 state) ++ []
+changes_of_notes state = ap (λ act. map Stepped (act.steps 0 state) ++ []) notes_in
 
 -- those of a report in slot 5 are the input's
-pub changes_of_reads : (state : State) → changes_of_event one_track (in_slot 5 state []) (Minor (Some (69 ∷ 1 ∷ 254 ∷ 186 ∷ []))) ≡ (map Stepped ((reads_act (λ state. bit_of 1 0 && true)).steps 0 state) ++ []) ++ []
-changes_of_reads state = ap (λ act. (map Stepped (act.steps 0 state) ++ []) ++ []) (reads_in 1)
+pub changes_of_reads : (state : State) → changes_of_deeds one_track state (deeds_of_event one_track (in_slot 5 state []) (Minor (Some (69 ∷ 1 ∷ 254 ∷ 186 ∷ [])))) ≡ map Stepped ((reads_act (λ state. bit_of 1 0 && true)).steps 0 state) ++ []
+changes_of_reads state = ap (λ act. map Stepped (act.steps 0 state) ++ []) (reads_in 1)

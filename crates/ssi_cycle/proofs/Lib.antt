@@ -1,10 +1,11 @@
 pub mod Acts
-pub mod Keeping
+pub mod Changing
 pub mod Modules
 pub mod Restricting
 pub mod Bytes
 pub mod Slots
 pub mod Serving
-pub mod Changing
+pub mod Blocks
+pub mod Cycling
 pub mod Examples
 pub mod Sharing

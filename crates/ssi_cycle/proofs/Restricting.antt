@@ -1,13 +1,13 @@
 -- The pins of a module, restricted one after another.
-use Rattle.std.proofs.Common.{◌≡◌, ◌==◌, Bool, true, false, ℕ, zero, suc, ◌+◌, ◌<◌, ◌≤◌, List, [], ◌∷◌, ◌++◌, length, drop, get_or, Option, Some, None, refl, ap, sym, subst, ◌∙◌, arith, inl, inr, ◌⊎◌}
+use Rattle.std.proofs.Common.{◌≡◌, ◌≢◌, ◌==◌, Bool, true, false, ℕ, zero, suc, ◌+◌, ◌<◌, ◌≤◌, List, [], ◌∷◌, ◌++◌, length, drop, get_or, Option, Some, None, refl, ap, sym, subst, ◌∙◌, arith, inl, inr, ◌⊎◌}
 use Rattle.std.specs.Prelude.{if◌then◌else◌, option_map, option_and_then, slice_get, All, IfSome}
 use Rattle.std.specs.List.{flat_map}
 use Rattle.std.proofs.lemmas.Bool.{cases_lt}
-use Rattle.std.proofs.lemmas.List.{drop_more, drop_all, get_or_past}
-use Rattle.std.proofs.lemmas.List.Elements.{All-get_or}
+use Rattle.std.proofs.lemmas.List.{drop_more, drop_all, get_or_past, get_or-set_other}
+use Rattle.std.proofs.lemmas.List.Elements.{All-get_or, All-head, All-tail}
 use Rattle.ssi_identities.specs.declared.fact.Kind.{Kind}
 use Rattle.ssi_identities.specs.DataSets.{Plan, ModulePlan, counts_of, names_in}
-use Rattle.ssi_identities.specs.States.{Setting, State, after_setting, after_settings}
+use Rattle.ssi_identities.specs.States.{Setting, State, after_setting, after_settings, truth_of}
 use Rattle.ssi_identities.specs.Wells.{IsWellModule, wired_kind}
 use Rattle.ssi_image.specs.Places.{pin_of}
 use Rattle.ssi_cycle.specs.Restrictions.{pin_restriction}
@@ -21,6 +21,13 @@ where_given (x ∷ xs) (suc i) = where_given xs i
 settings_more : (settings more : List Setting) (state : State) → after_settings state (settings ++ more) ≡ after_settings (after_settings state settings) more
 settings_more [] more state = refl
 settings_more (setting ∷ settings) more state = settings_more settings more (after_setting state setting)
+
+-- a fact that settings don't name keeps its value
+pub others_stay : (settings : List Setting) (state : State) (fact : ℕ) → All (λ setting. fact ≢ setting.fact) settings → truth_of (after_settings state settings) fact ≡ truth_of state fact
+others_stay [] state fact others = refl
+others_stay (setting ∷ settings) state fact others =
+    others_stay settings (after_setting state setting) fact (All-tail (λ setting. fact ≢ setting.fact) setting settings others)
+    ∙ get_or-set_other state.facts setting.fact fact setting.value false (All-head (λ setting. fact ≢ setting.fact) setting settings others)
 
 -- what the pins from one on restrict
 abbrev pub restriction_from : Plan → ModulePlan → ℕ → List Setting

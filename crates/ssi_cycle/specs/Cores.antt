@@ -21,4 +21,4 @@ before_after core (Minor arrived) = core.world.state
 
 -- the interlocking after an event
 abbrev pub after_event_on : Core → Event → Core
-after_event_on core event = record { plan = core.plan; world = after_event core.plan core.world event; before = before_after core event }
+after_event_on core event = record core { world = after_event core.plan core.world event; before = before_after core event }

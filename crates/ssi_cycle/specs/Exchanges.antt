@@ -1,12 +1,11 @@
--- What arrives in a slot, and what it does.
-use Rattle.std.specs.Prelude.{ℕ, List, Option, Some, None, option_and_then, slice_get}
+-- What arrives in a slot, and the deeds that follow from it.
+use Rattle.std.specs.Prelude.{ℕ, List, [], ◌∷◌, Option, Some, None, option_and_then, slice_get}
 use Rattle.ssi_identities.specs.declared.rule.Body.{Body}
 use Rattle.ssi_identities.specs.DataSets.{Plan, ModulePlan}
-use Rattle.ssi_identities.specs.States.{State}
-use Rattle.ssi_identities.specs.Steps.{effect_of}
 use Rattle.ssi_image.specs.Places.{module_with}
 use Rattle.ssi_telegrams.specs.Telegram.{reported_byte}
-use Rattle.ssi_cycle.specs.Restrictions.{restricted}
+use Rattle.ssi_cycle.specs.Deeds.{Deed}
+use Rattle.ssi_cycle.specs.Deeds.Deed.{Acts, Restricts}
 
 -- four bytes, or nothing, that arrive in a slot
 abbrev pub Arrival : Type 0
@@ -20,17 +19,17 @@ module_in plan slot = option_and_then (slice_get plan.modules) (module_with plan
 abbrev pub heard_from : ℕ → Arrival → Option ℕ
 heard_from address arrived = option_and_then (reported_byte address) arrived
 
--- a report's byte acts by the module's input, where it has one
-abbrev pub after_input : Plan → Option Body → ℕ → State → State
-after_input plan None byte state = state
-after_input plan (Some input) byte state = effect_of plan input state byte
+-- the input of a module acts with a report's byte, where the module has one
+abbrev pub deeds_of_input : Option Body → ℕ → List Deed
+deeds_of_input None byte = []
+deeds_of_input (Some input) byte = Acts input byte ∷ []
 
--- a slot without a module ignores what arrives; a module that has reported a byte acts by its input, and all that is wired to one that hasn't is restricted
-abbrev pub after_exchange : Plan → Option ModulePlan → Option ℕ → State → State
-after_exchange plan None heard state = state
-after_exchange plan (Some row) (Some byte) state = after_input plan row.input byte state
-after_exchange plan (Some row) None state = restricted plan row state
+-- a slot without a module ignores what arrives; the input of a module that has reported a byte acts with it, and all that is wired to one that hasn't is restricted
+abbrev pub deeds_of_exchange : Option ModulePlan → Option ℕ → List Deed
+deeds_of_exchange None heard = []
+deeds_of_exchange (Some row) (Some byte) = deeds_of_input row.input byte
+deeds_of_exchange (Some row) None = Restricts row ∷ []
 
--- what arrives in a slot is taken in
-abbrev pub after_arrival : Plan → ℕ → Arrival → State → State
-after_arrival plan slot arrived state = after_exchange plan (module_in plan slot) (heard_from slot arrived) state
+-- the deeds of what arrives in a slot
+abbrev pub deeds_of_arrival : Plan → ℕ → Arrival → List Deed
+deeds_of_arrival plan slot arrived = deeds_of_exchange (module_in plan slot) (heard_from slot arrived)

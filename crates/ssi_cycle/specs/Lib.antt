@@ -1,10 +1,12 @@
 pub mod Restrictions
+pub mod Deeds
 pub mod Exchanges
 pub mod Outputs
 pub mod Statements
 pub mod Requests
 pub mod Worlds
+pub mod Blocks
 pub mod Moments
 pub mod Cores
-pub mod Held
+pub mod Invariants
 pub mod Worked

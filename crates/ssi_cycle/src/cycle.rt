@@ -4,8 +4,8 @@ ghost use Rattle.std.specs.Prelude.{◌≡◌, ◌<◌, ◌↔◌, All, IsTrue, 
 ghost use Rattle.ssi_identities.specs.DataSets.{counts_of};
 ghost use Rattle.ssi_identities.specs.States.{IsStateOf, fact_total_of};
 ghost use Rattle.ssi_identities.specs.Wells.{IsWell};
-ghost use Rattle.ssi_cycle.specs.Requests.{taken_of};
-ghost use Rattle.ssi_cycle.specs.Worlds.{MayAct, minor_cycle_of};
+ghost use Rattle.ssi_cycle.specs.Deeds.{after_deeds};
+ghost use Rattle.ssi_cycle.specs.Worlds.{World, deeds_of, taken_in};
 
 use crate::exchange::take_arrival;
 use crate::requests::{MOST_WAITING, serve};
@@ -25,29 +25,31 @@ pub fn note(noted: &mut State, state: &State, has_acted: bool)
     }
 }
 
-/// Takes in what has arrived in a slot, lets the slot's statements act, and serves the oldest request that waits. Answers whether anything may have acted, and
-/// the request that was taken.
+/// Takes in what has arrived in a slot, lets the slot's statements act, and serves the oldest request that waits. Answers whether anything has acted, and
+/// the request that was taken, with its panel.
 pub fn act(
     image: &Image,
     slot: u8,
     arrived: Option<[u8; 4]>,
     waiting: &mut ArrayVec<u16, MOST_WAITING>,
     state: &mut State,
-) -> (bool, Option<u16>)
+) -> (bool, Option<(u8, u16)>)
     requires well { IsWell image.now }
     requires slot { slot < 64 }
     requires there { All (λ request. request < length image.now.requests) waiting.old.items }
     requires state { IsStateOf (counts_of image.now) state.old }
-    ensures effect { state.new
-        ≡ (minor_cycle_of image.now (record { state = state.old; waiting = waiting.old.items; slot = slot }) arrived).state }
+    ensures effect { let world : World = record { state = state.old; waiting = waiting.old.items; slot = slot } in
+        state.new ≡ after_deeds image.now state.old (deeds_of image.now world arrived) }
     ensures whole { IsStateOf (counts_of image.now) state.new }
     ensures rest { waiting.new.items ≡ drop 1 waiting.old.items }
-    ensures taken { result.1 ≡ taken_of waiting.old.items }
-    ensures acted { IsTrue result.0 ↔ MayAct image.now (record { state = state.old; waiting = waiting.old.items; slot = slot }) }
+    ensures taken { result.1 ≡ taken_in image.now (record { state = state.old; waiting = waiting.old.items; slot = slot }) }
+    ensures acted { let world : World = record { state = state.old; waiting = waiting.old.items; slot = slot } in
+        IsTrue result.0 ↔ (0 < length (deeds_of image.now world arrived)) }
     ensures idle { result.0 ≡ false → state.new ≡ state.old }
 {
     let reported = take_arrival(image, slot, arrived, state);
     let stated = run_statements(image, slot, state);
     let request = serve(image, waiting, state);
-    (reported || stated || request.is_some(), request)
+    let has_acted = reported || stated || request.is_some();
+    (has_acted, request)
 }

@@ -1,14 +1,14 @@
 //! The interlocking: one event a call.
 
-ghost use Rattle.std.specs.Prelude.{◌≡◌, ◌<◌, ◌↔◌, None, length, option_map, IfOk, IsErr, IsTrue};
+ghost use Rattle.std.specs.Prelude.{◌≡◌, ◌<◌, ◌↔◌, length, IfOk, IsErr, IsTrue};
 ghost use Rattle.ssi_identities.specs.DataSets.{counts_of};
 ghost use Rattle.ssi_identities.specs.Facts.{IsWithinLimits};
 ghost use Rattle.ssi_identities.specs.States.{IsStateOf};
 ghost use Rattle.ssi_state.specs.Changes.{IsNextChange};
 ghost use Rattle.ssi_cycle.specs.Cores.{after_event_on, core_of};
-ghost use Rattle.ssi_cycle.specs.Moments.{after_changes, changes_of_minor_cycle};
 ghost use Rattle.ssi_cycle.specs.Outputs.{output_in};
-ghost use Rattle.ssi_cycle.specs.Requests.{is_full, taken_of};
+ghost use Rattle.ssi_cycle.specs.Requests.{is_full};
+ghost use Rattle.ssi_cycle.specs.Worlds.{taken_in};
 ghost use Rattle.ssi_cycle.specs.Worlds.Event.{Put, Minor};
 
 use crate::cycle::{act, note};
@@ -24,9 +24,6 @@ use std::marker::Model;
 /// How many slots there are: a minor cycle for each, and then again from slot 0 on.
 const SLOTS: u8 = 64;
 
-/// The one panel that there is.
-const PANEL: u8 = 0;
-
 /// What a minor cycle did.
 #[derive(Clone, Copy, Debug, PartialEq, Eq)]
 pub struct Did {
@@ -40,7 +37,7 @@ pub struct Interlocking {
     image: Image,
     state: State,
     before: State,
-    // Whether something may have acted in the last minor cycle: where nothing has, both states are equal.
+    // Whether something has acted in the last minor cycle: where nothing has, both states are equal.
     has_acted: bool,
     waiting: ArrayVec<u16, MOST_WAITING>,
     slot: u8,
@@ -51,7 +48,7 @@ impl Model for Interlocking {
     ghost use Rattle.ssi_identities.specs.contracts.rule.BodyItem as body_item;
     ghost use Rattle.ssi_identities.specs.contracts.rule.CondItem as cond_item;
     ghost use Rattle.ssi_cycle.specs.Cores.{Core};
-    ghost use Rattle.ssi_cycle.specs.Held.{IsCoreInvariant};
+    ghost use Rattle.ssi_cycle.specs.Invariants.{IsCoreInvariant};
 
     ghost Value = { Core };
 
@@ -106,14 +103,10 @@ impl Interlocking {
     /// serves the oldest request that waits.
     pub fn minor_cycle(&mut self, report: Option<[u8; 4]>) -> Did
         ensures event { self.new ≡ after_event_on self.old (Minor report) }
-        ensures taken { result.taken ≡ option_map (λ request. (0, request)) (taken_of self.old.world.waiting) }
-
-        // The state that it leaves is the last moment.
-        ensures moments { self.new.world.state
-            ≡ after_changes self.old.world.state (changes_of_minor_cycle self.old.plan self.old.world report) }
+        ensures taken { result.taken ≡ taken_in self.old.plan self.old.world }
     {
         note(&mut self.before, &self.state, self.has_acted);
-        let (has_acted, request) = act(
+        let (has_acted, taken) = act(
             &self.image,
             self.slot,
             report,
@@ -122,9 +115,7 @@ impl Interlocking {
         );
         self.has_acted = has_acted;
         self.slot = (self.slot + 1) % SLOTS;
-        Did {
-            taken: request.map(|request| (PANEL, request)),
-        }
+        Did { taken }
     }
 
     /// The value of each fact, by its number.

@@ -17,9 +17,11 @@ mod statements;
 mod worked;
 
 pub use interlocking::{Did, Interlocking};
-pub use laws::{laws_of_moments, laws_of_slots};
+pub use laws::{laws_of_deeds, laws_of_moments, laws_of_slots};
 pub use requests::Full;
-pub use worked::{worked_bytes, worked_cycle, worked_moments, worked_restrictions, worked_slots};
+pub use worked::{
+    worked_bytes, worked_cycle, worked_deeds, worked_moments, worked_restrictions, worked_slots,
+};
 
 /// The report byte that conditions and bodies see where there is no report: none has influence on them.
 const NO_REPORT: u8 = 0;

@@ -1,10 +1,11 @@
 //! The statements of a slot.
 
-ghost use Rattle.std.specs.Prelude.{◌≡◌, ◌<◌, ◌≤◌, ◌↔◌, false, length, IsTrue};
+ghost use Rattle.std.specs.Prelude.{◌≡◌, ◌<◌, ◌≤◌, ◌↔◌, length, IsTrue};
 ghost use Rattle.ssi_identities.specs.DataSets.{counts_of};
 ghost use Rattle.ssi_identities.specs.States.{IsStateOf};
 ghost use Rattle.ssi_identities.specs.Wells.{IsWell};
-ghost use Rattle.ssi_cycle.specs.Statements.{after_statements, share_of as share_of_count, statements_in};
+ghost use Rattle.ssi_cycle.specs.Deeds.{after_deeds};
+ghost use Rattle.ssi_cycle.specs.Statements.{deeds_of_statements, share_of as share_of_count};
 
 use crate::NO_REPORT;
 use ssi_eval::{Stack, run_body_with};
@@ -23,7 +24,7 @@ fn share_of(count: u16) -> u16
 fn has_statements(image: &Image, slot: u8) -> bool
     requires well { IsWell image.now }
     requires slot { slot < 64 }
-    ensures { IsTrue result ↔ (0 < length (statements_in image.now.statements slot)) }
+    ensures { IsTrue result ↔ (0 < length (deeds_of_statements image.now slot)) }
 {
     let count = image.statement_count();
     u16::from(slot) * share_of(count) < count
@@ -35,7 +36,7 @@ fn act_in_turn(image: &Image, slot: u8, state: &mut State)
     requires well { IsWell image.now }
     requires slot { slot < 64 }
     requires state { IsStateOf (counts_of image.now) state.old }
-    ensures { state.new ≡ after_statements image.now (statements_in image.now.statements slot) state.old }
+    ensures { state.new ≡ after_deeds image.now state.old (deeds_of_statements image.now slot) }
 {
     let count = image.statement_count();
     let share = share_of(count);
@@ -48,14 +49,13 @@ fn act_in_turn(image: &Image, slot: u8, state: &mut State)
     }
 }
 
-/// Lets the statements of a slot act, in written order. Answers whether it has any: where it hasn't, nothing changes.
+/// Lets the statements of a slot act, in written order. Answers whether it has any.
 pub fn run_statements(image: &Image, slot: u8, state: &mut State) -> bool
     requires well { IsWell image.now }
     requires slot { slot < 64 }
     requires state { IsStateOf (counts_of image.now) state.old }
-    ensures effect { state.new ≡ after_statements image.now (statements_in image.now.statements slot) state.old }
-    ensures answer { IsTrue result ↔ (0 < length (statements_in image.now.statements slot)) }
-    ensures none { result ≡ false → state.new ≡ state.old }
+    ensures effect { state.new ≡ after_deeds image.now state.old (deeds_of_statements image.now slot) }
+    ensures answer { IsTrue result ↔ (0 < length (deeds_of_statements image.now slot)) }
 {
     let has = has_statements(image, slot);
     if has {

@@ -3,12 +3,14 @@
 ghost use Rattle.std.specs.Prelude.{◌≡◌, ℕ, Bool, true, false, [], ◌∷◌, ◌++◌, map, replicate, Some, None};
 ghost use Rattle.std.specs.List.{flat_map, range_with_len};
 ghost use Rattle.ssi_identities.specs.States.{State};
+ghost use Rattle.ssi_image.specs.Places.{body_of_statement};
+ghost use Rattle.ssi_cycle.specs.Deeds.Deed.{Acts, Restricts};
 ghost use Rattle.ssi_cycle.specs.Moments.{moments_of};
 ghost use Rattle.ssi_cycle.specs.Outputs.{byte_of, output_byte, output_in};
 ghost use Rattle.ssi_cycle.specs.Restrictions.{restricted};
 ghost use Rattle.ssi_cycle.specs.Statements.{share_of, statements_in};
-ghost use Rattle.ssi_cycle.specs.Worked.{statement, statements, module_of_p1, module_of_p2, module_of_s1, module_of_tracks, lineside, lineside_is, module_of_t1, one_track, one_track_is, in_slot};
-ghost use Rattle.ssi_cycle.specs.Worlds.{after, after_event, start_of};
+ghost use Rattle.ssi_cycle.specs.Worked.{statement, statements, module_of_p1, module_of_p2, module_of_s1, module_of_tracks, lineside, lineside_is, module_of_t1, reads_t1, notes_t1, gives_t1, one_track, one_track_is, in_slot};
+ghost use Rattle.ssi_cycle.specs.Worlds.{after, after_event, deeds_of, start_of, taken_in};
 ghost use Rattle.ssi_cycle.specs.Worlds.Event.{Put, Minor};
 
 /// Each slot has the least number of statements of which 64 slots have enough, as far as there are so many: each statement stands in one slot.
@@ -55,6 +57,25 @@ pub fn worked_restrictions()
         ≡ lineside_is true true true true true }
     ensures again { restricted lineside module_of_tracks (lineside_is true true true true true)
         ≡ lineside_is true true true true true }
+{}
+
+/// What acts in minor cycles: what arrives in the slot, then its statements, then the request that is taken. A report's number is a byte.
+pub fn worked_deeds()
+    ensures report { (state : State)
+        → deeds_of one_track (in_slot 5 state []) (Some (69 ∷ 1 ∷ 254 ∷ 186 ∷ [])) ≡ Acts reads_t1 1 ∷ [] }
+    ensures no_byte { (state : State)
+        → deeds_of one_track (in_slot 5 state []) (Some (69 ∷ 300 ∷ 0 ∷ 186 ∷ [])) ≡ Restricts module_of_t1 ∷ [] }
+    ensures silent { (state : State)
+        → deeds_of one_track (in_slot 5 state (0 ∷ [])) None ≡ Restricts module_of_t1 ∷ Acts gives_t1 0 ∷ [] }
+    ensures in_turn { (state : State) → deeds_of one_track (in_slot 0 state (0 ∷ 0 ∷ [])) None
+        ≡ Acts (body_of_statement notes_t1) 0 ∷ Acts gives_t1 0 ∷ [] }
+    ensures no_module { (state : State)
+        → deeds_of one_track (in_slot 6 state []) (Some (69 ∷ 1 ∷ 254 ∷ 186 ∷ [])) ≡ [] }
+    ensures no_input { (state : State)
+        → deeds_of lineside (in_slot 1 state []) (Some (65 ∷ 1 ∷ 254 ∷ 190 ∷ [])) ≡ [] }
+    ensures oldest { (slot : ℕ) (state : State)
+        → taken_in one_track (in_slot slot state (0 ∷ 1 ∷ [])) ≡ Some (0, 0) }
+    ensures none_waits { (slot : ℕ) (state : State) → taken_in one_track (in_slot slot state []) ≡ None }
 {}
 
 /// What events make of worlds of the layout of one track, whose module is exchanged with in slot 5, and whose statement acts in slot 0.

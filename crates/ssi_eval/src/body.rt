@@ -1,6 +1,6 @@
 //! What a body does to a state.
 
-ghost use Rattle.std.specs.Prelude.{◌≡◌, ◌≤◌, [], length, Option};
+ghost use Rattle.std.specs.Prelude.{◌≡◌, ◌≤◌, [], Option};
 ghost use Rattle.arrayvec.specs.ArrayVec.{array_vec_len};
 ghost use Rattle.ssi_identities.specs.declared.rule.Body.{Body};
 ghost use Rattle.ssi_identities.specs.declared.rule.Cond.{Cond};

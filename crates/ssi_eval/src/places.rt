@@ -1,6 +1,6 @@
 //! The conditions and bodies of an image, by their places.
 
-ghost use Rattle.std.specs.Prelude.{◌≡◌, true, [], is_some, length, Some};
+ghost use Rattle.std.specs.Prelude.{◌≡◌, true, [], is_some, Some};
 ghost use Rattle.ssi_identities.specs.declared.rule.Body.{Body};
 ghost use Rattle.ssi_identities.specs.declared.rule.Cond.{Cond};
 ghost use Rattle.ssi_identities.specs.Codes.{code_of_cond};

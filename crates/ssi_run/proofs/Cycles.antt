@@ -4,10 +4,11 @@ use Rattle.std.specs.Result.{result_from_control_flow}
 use Rattle.ssi_base.specs.Faults.{Faults}
 use Rattle.ssi_base.specs.Streams.{Writes}
 use Rattle.ssi_cycle.specs.Cores.{Core, after_event_on}
+use Rattle.ssi_cycle.specs.Worlds.{taken_in}
 use Rattle.ssi_cycle.specs.Worlds.Event.{Minor}
 use Rattle.ssi_script.specs.Lines.{line_of}
 use Rattle.ssi_script.specs.Sessions.{Session, Exchange, exchange_of, after_cycle, after_cycles}
-use Rattle.ssi_script.specs.Traces.{Piece, cycle_pieces, cycle_text, served_of}
+use Rattle.ssi_script.specs.Traces.{Piece, cycle_pieces, cycle_text}
 use Rattle.ssi_run.specs.Courses.{session_at}
 use Rattle.ssi_run.specs.Stops.{WritesPieces}
 use Rattle.ssi_run.proofs.Pieces.{PiecesLeft, fewer_pieces_left, one_written, passed_past, pieces_stop}
@@ -20,17 +21,17 @@ with_exchange session exchange =
 -- its line
 abbrev line_with : Session → Exchange → List ℕ
 line_with session exchange =
-    line_of session.number exchange.out exchange.arrived (served_of session.core.world.waiting) (with_exchange session exchange).core
+    line_of session.number exchange.out exchange.arrived (taken_in session.core.plan session.core.world) (with_exchange session exchange).core
 
 module _ (session : Session) (exchange : Exchange) (core : Core) (passed : exchange ≡ exchange_of session) (made : core ≡ after_event_on session.core (Minor exchange.arrived)) where
   pub cycle_made : session_at core exchange.shelf exchange.marks (session.number + 1) ≡ after_cycle session
   cycle_made = ap (λ (core : Core). session_at core exchange.shelf exchange.marks (session.number + 1)) made ∙ ap (with_exchange session) passed
 
-  pub line_made : (taken : Option (ℕ × ℕ)) → taken ≡ served_of session.core.world.waiting
+  pub line_made : (taken : Option (ℕ × ℕ)) → taken ≡ taken_in session.core.plan session.core.world
       → line_of session.number exchange.out exchange.arrived taken core ≡ cycle_text session
   line_made taken is =
       ap (λ (taken : Option (ℕ × ℕ)). line_of session.number exchange.out exchange.arrived taken core) is
-      ∙ ap (λ (core : Core). line_of session.number exchange.out exchange.arrived (served_of session.core.world.waiting) core) made
+      ∙ ap (λ (core : Core). line_of session.number exchange.out exchange.arrived (taken_in session.core.plan session.core.world) core) made
       ∙ ap (line_with session) passed
 
 -- a session on its way: so many of its minor cycles are left

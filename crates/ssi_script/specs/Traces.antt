@@ -1,21 +1,18 @@
 -- The trace: what a session writes, piece by piece.
-use Rattle.std.specs.Prelude.{ℕ, zero, suc, if◌then◌else◌, List, [], ◌∷◌, ◌++◌, Option, option_map}
-use Rattle.ssi_cycle.specs.Requests.{is_full, taken_of}
+use Rattle.std.specs.Prelude.{ℕ, zero, suc, if◌then◌else◌, List, [], ◌∷◌, ◌++◌}
+use Rattle.ssi_cycle.specs.Requests.{is_full}
+use Rattle.ssi_cycle.specs.Worlds.{taken_in}
 use Rattle.ssi_trackside.specs.Module.{ModuleState}
 use Rattle.ssi_script.specs.declared.step.ScriptStep.{ScriptStep}
 use Rattle.ssi_script.specs.declared.step.ScriptStep.TheVariants.{Panel, Cycle, Happen, Raw, Lose, Drop}
 use Rattle.ssi_script.specs.Lines.{line_of, full_line}
 use Rattle.ssi_script.specs.Sessions.{Session, exchange_of, after_cycle, after_step}
 
--- the panel and the number of the request that a minor cycle takes: there is panel 0
-abbrev pub served_of : List ℕ → Option (ℕ × ℕ)
-served_of waiting = option_map (λ request. (0, request)) (taken_of waiting)
-
 -- the line of the minor cycle that a session comes to
 abbrev pub cycle_text : Session → List ℕ
 cycle_text session =
     let exchange = exchange_of session in
-    line_of session.number exchange.out exchange.arrived (served_of session.core.world.waiting) (after_cycle session).core
+    line_of session.number exchange.out exchange.arrived (taken_in session.core.plan session.core.world) (after_cycle session).core
 
 -- a put that finds 64 requests waiting gives a line
 abbrev pub put_text : ℕ → ℕ → Session → List ℕ

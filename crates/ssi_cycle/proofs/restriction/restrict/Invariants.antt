@@ -1,4 +1,4 @@
-use Rattle.std.proofs.Common.{◌≡◌, length, Some}
+use Rattle.std.proofs.Common.{◌≡◌, Some}
 use Rattle.std.specs.Prelude.{slice_get}
 use Rattle.ssi_identities.specs.DataSets.{ModulePlan, counts_of}
 use Rattle.ssi_identities.specs.States.{IsStateOf, after_settings}

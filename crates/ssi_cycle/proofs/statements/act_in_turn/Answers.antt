@@ -1,6 +1,6 @@
 use Rattle.std.proofs.Common.{◌≤◌, length, sym, ap, ◌∙◌, arith}
-use Rattle.ssi_cycle.specs.Statements.{after_statements}
-use Rattle.ssi_cycle.proofs.Slots.{none_between, slot_statements, statement_keeps, statement_next, statement_there}
+use Rattle.ssi_cycle.specs.Deeds.{after_deeds}
+use Rattle.ssi_cycle.proofs.Slots.{none_between, slot_deeds, statement_keeps, statement_next, statement_there}
 use Rattle.ssi_cycle.proofs.statements.act_in_turn.Goals as goal
 
 pub run_body_with-requires-clause-there : goal.run_body_with-requires-clause-there
@@ -20,5 +20,5 @@ loop-number-preserved c =
 pub returns : goal.returns
 returns c =
     let plan = c.args.image.now in
-    let slot = slot_statements plan.statements c.statement_count-count.result c.share_of-share.result c.from.result c.min-end.result c.args.slot c.statement_count-count.ensures c.share_of-share.ensures c.from.ensures c.min-end.ensures in
-    sym (none_between plan c.loop-number.number c.min-end.result c.loop-number.state c.loop-number-test.false) ∙ c.loop-number.invariant.left ∙ ap (λ rows. after_statements plan rows c.args.state.now) (sym slot)
+    let slot = slot_deeds plan c.statement_count-count.result c.share_of-share.result c.from.result c.min-end.result c.args.slot c.statement_count-count.ensures c.share_of-share.ensures c.from.ensures c.min-end.ensures in
+    sym (none_between plan c.loop-number.number c.min-end.result c.loop-number.state c.loop-number-test.false) ∙ c.loop-number.invariant.left ∙ ap (after_deeds plan c.args.state.now) (sym slot)
