@@ -8,7 +8,7 @@ use Rattle.ssi_cycle.specs.Worlds.{taken_in}
 use Rattle.ssi_cycle.specs.Worlds.Event.{Minor}
 use Rattle.ssi_script.specs.Lines.{line_of}
 use Rattle.ssi_script.specs.Sessions.{Session, Exchange, exchange_of, after_cycle, after_cycles}
-use Rattle.ssi_script.specs.Traces.{Piece, cycle_pieces, cycle_text}
+use Rattle.ssi_script.specs.Traces.{ShelfPiece, cycle_pieces, cycle_text}
 use Rattle.ssi_run.specs.Courses.{session_at}
 use Rattle.ssi_run.specs.Stops.{WritesPieces}
 use Rattle.ssi_run.proofs.Pieces.{PiecesLeft, fewer_pieces_left, one_written, passed_past, pieces_stop}
@@ -44,8 +44,8 @@ module _ (session next : Session) (count turn : ℕ) (within : turn < count) (ma
   one_more = omega arith
 
   -- the piece of the next minor cycle
-  abbrev piece : Piece
-  piece = record { text = cycle_text session; shelf = next.shelf }
+  abbrev piece : ShelfPiece
+  piece = record { text = cycle_text session; standing = next.shelf }
 
   pieces_next : cycle_pieces (count - turn) session ≡ (piece ∷ []) ++ cycle_pieces (count - (turn + 1)) next
   pieces_next = rw (one_more, made) refl

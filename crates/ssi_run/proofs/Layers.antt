@@ -15,15 +15,19 @@ use Rattle.ssi_names.specs.Faults.{faults_of}
 use Rattle.ssi_names.specs.Rows.{resolved}
 use Rattle.ssi_trackside.specs.Module.{ModuleState}
 use Rattle.ssi_run.specs.FaultLines.{name_fault_lines}
-use Rattle.ssi_run.specs.Answers.{Answer, faulty, PlanAnswers, TreeAnswers, name_faults, a_plan, a_tree, InputAnswers}
+use Rattle.ssi_run.specs.Answers.{Answer, DataPart, Named, RunsText, Script, a_plan, a_tree, faulty, name_faults}
 
-module _ {input : List ℕ} {shelf : List ModuleState} {tree : SourceText} {script : List Lexeme} {end : TextEnd} where
+-- what a tree and what stands behind it are answered
+abbrev pub Tree : List ℕ → List ModuleState → SourceText → List Lexeme → TextEnd → Answer → Type 0
+Tree input shelf = Named input shelf (Script input shelf)
+
+module _ {input : List ℕ} {shelf : List ModuleState} {tree : SourceText} {behind : List Lexeme} {end : TextEnd} where
   -- a tree without faults is answered what its data set is answered
-  pub tree_of_plan : {plan : Plan} → faults_of input tree ≡ [] → plan ≡ resolved input tree → (answer : Answer) → PlanAnswers input shelf plan script end answer → TreeAnswers input shelf tree script end answer
-  tree_of_plan none is answer p = a_plan answer none (subst (λ (plan : Plan). PlanAnswers input shelf plan script end answer) is p)
+  pub tree_of_plan : {plan : Plan} → faults_of input tree ≡ [] → plan ≡ resolved input tree → (answer : Answer) → Script input shelf plan behind end answer → Tree input shelf tree behind end answer
+  tree_of_plan none is answer p = a_plan answer none (subst (λ (plan : Plan). Script input shelf plan behind end answer) is p)
 
   -- and one with faults their lines
-  pub tree_of_faults : {list : List Fault} → list ≡ faults_of input tree → faults_of input tree ≢ [] → TreeAnswers input shelf tree script end (faulty shelf (name_fault_lines input list))
+  pub tree_of_faults : {list : List Fault} → list ≡ faults_of input tree → faults_of input tree ≢ [] → Tree input shelf tree behind end (faulty shelf (name_fault_lines input list))
   tree_of_faults is some = rw is (name_faults some)
 
 module _ {input : List ℕ} {old new : Reading} {tree : SourceText} (same : old.text ≡ input) (tokens : AreTokens input 0 old.left old.end) (takes : Takes SourceText (SpellsSource deepest) ends_file old.left old.end tree new.left) (on : GoesOn old new) where
@@ -34,9 +38,9 @@ module _ {input : List ℕ} {old new : Reading} {tree : SourceText} (same : old.
       rw (on.text, same) spelled
 
   -- an input whose data part spells a tree is answered what the tree is answered, with the tokens that are left
-  pub input_of_tree : {shelf : List ModuleState} (answer : Answer) → TreeAnswers new.text shelf tree new.left new.end answer → InputAnswers input shelf answer
+  pub input_of_tree : {shelf : List ModuleState} (answer : Answer) → Tree new.text shelf tree new.left new.end answer → RunsText input shelf answer
   input_of_tree {shelf = shelf} answer t =
-      let here = subst (λ (text : List ℕ). TreeAnswers text shelf tree new.left new.end answer) on.text t in
-      let there = subst (λ (text : List ℕ). TreeAnswers text shelf tree new.left new.end answer) same here in
-      let ended = subst (λ (end : TextEnd). TreeAnswers input shelf tree new.left end answer) on.end there in
+      let here = subst (λ (text : List ℕ). Tree text shelf tree new.left new.end answer) on.text t in
+      let there = subst (λ (text : List ℕ). Tree text shelf tree new.left new.end answer) same here in
+      let ended = subst (λ (end : TextEnd). Tree input shelf tree new.left end answer) on.end there in
       record { lexemes = old.left; end = old.end; tokens = tokens; answered = a_tree tree new.left answer takes ended }

@@ -5,8 +5,8 @@ pub mod StepsLeft
 pub mod LastLine
 pub mod Replying
 pub mod Layers
-pub mod Answering
-pub mod Promises
+pub mod Ending
+pub mod EndingLaws
 pub mod OneAnswer
 pub mod SomeAnswer
 pub mod FaultTexts

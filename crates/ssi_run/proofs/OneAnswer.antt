@@ -15,12 +15,10 @@ use Rattle.ssi_script.specs.declared.step.ScriptFault.{ScriptFault}
 use Rattle.ssi_script.specs.declared.step.ScriptStep.{ScriptStep}
 use Rattle.ssi_script.specs.Scripts.{IsScript}
 use Rattle.ssi_script.specs.Sessions.{session_of}
-use Rattle.ssi_script.specs.Traces.{steps_pieces}
-use Rattle.ssi_run.specs.declared.words.Command.{Command}
 use Rattle.ssi_run.specs.declared.words.Command.TheVariants.{Run}
 use Rattle.ssi_run.specs.FaultLines.{lexical_line, syntax_line, depth_line}
-use Rattle.ssi_run.specs.Answers.{Answer, faulty, script_answer, PlanAnswers, TreeAnswers, name_faults, a_plan, TokenAnswers, no_token, no_spelling, too_deep, a_tree, InputAnswers, RunAnswers, within, too_large, CommandAnswers, HasOneAnswer}
-use Rattle.ssi_run.specs.Words.{command_of}
+use Rattle.ssi_run.specs.Answers.{Answer, DataPart, HasOneAnswer, HasOneStatus, RunsText, Script, Within, a_plan, a_tree, faulty, name_faults, no_spelling, no_token, script_answer, too_deep, too_large, within}
+use Rattle.ssi_run.proofs.Layers.{Tree}
 
 -- tokens are one script of a layout at most
 abbrev pub OneScript : Type 0
@@ -28,15 +26,15 @@ OneScript = (plan : Plan) (text : List ℕ) (left : List Lexeme) (end : TextEnd)
     → IsScript plan text left end a e → IsScript plan text left end b f → (a ≡ b) × (e ≡ f)
 
 module _ (scripts : OneScript) (input : List ℕ) (shelf : List ModuleState) (script : List Lexeme) (end : TextEnd) where
-  one_plan : (plan : Plan) (a b : Answer) → PlanAnswers input shelf plan script end a → PlanAnswers input shelf plan script end b → a ≡ b
+  one_plan : (plan : Plan) (a b : Answer) → Script input shelf plan script end a → Script input shelf plan script end b → a ≡ b
   one_plan plan a b p q =
       let same = scripts plan input script end p.steps q.steps p.fault q.fault p.script_is q.script_is in
       p.answer_is
-      ∙ ap (λ (steps : List ScriptStep). script_answer input shelf (steps_pieces steps (session_of plan shelf)) p.fault) same.0
-      ∙ ap (script_answer input shelf (steps_pieces q.steps (session_of plan shelf))) same.1
+      ∙ ap (λ (steps : List ScriptStep). script_answer input steps p.fault (session_of plan shelf)) same.0
+      ∙ ap (λ (fault : Option ScriptFault). script_answer input q.steps fault (session_of plan shelf)) same.1
       ∙ sym q.answer_is
 
-  one_tree : (tree : SourceText) (a b : Answer) → TreeAnswers input shelf tree script end a → TreeAnswers input shelf tree script end b → a ≡ b
+  one_tree : (tree : SourceText) (a b : Answer) → Tree input shelf tree script end a → Tree input shelf tree script end b → a ≡ b
   one_tree tree a b (name_faults some) (name_faults more) = refl
   one_tree tree a b (name_faults some) (a_plan y none q) = absurd (some none)
   one_tree tree a b (a_plan x none p) (name_faults some) = absurd (some none)
@@ -45,16 +43,16 @@ module _ (scripts : OneScript) (input : List ℕ) (shelf : List ModuleState) (sc
 module _ (scripts : OneScript) (findings : HasOneFinding SourceText (SpellsSource deepest) (AtAnyDepth SourceText SpellsSource) ends_file)
     (cuttings : (text : List ℕ) (start : ℕ) (a b : List Lexeme) (e f : TextEnd) → AreTokens text start a e → AreTokens text start b f → (a ≡ b) × (e ≡ f)) where
   module _ (input : List ℕ) (shelf : List ModuleState) (lexemes : List Lexeme) (end : TextEnd) where
-    same_tree : (tree other : SourceText) (script more : List Lexeme) (a b : Answer) → (tree ≡ other) × (script ≡ more) → TreeAnswers input shelf tree script end a → TreeAnswers input shelf other more end b → a ≡ b
+    same_tree : (tree other : SourceText) (script more : List Lexeme) (a b : Answer) → (tree ≡ other) × (script ≡ more) → Tree input shelf tree script end a → Tree input shelf other more end b → a ≡ b
     same_tree tree other script more a b same t u =
-        let here = subst (λ (x : SourceText). TreeAnswers input shelf x script end a) same.0 t in
-        let there = subst (λ (s : List Lexeme). TreeAnswers input shelf other s end a) same.1 here in
+        let here = subst (λ (x : SourceText). Tree input shelf x script end a) same.0 t in
+        let there = subst (λ (s : List Lexeme). Tree input shelf other s end a) same.1 here in
         one_tree scripts input shelf more end other a b there u
 
     same_fault : (f g : LexFault) → end ≡ Faulty f → end ≡ Faulty g → f ≡ g
     same_fault f g e h = cc
 
-    one_token : (a b : Answer) → TokenAnswers input shelf lexemes end a → TokenAnswers input shelf lexemes end b → a ≡ b
+    one_token : (a b : Answer) → DataPart shelf (Tree input shelf) lexemes end a → DataPart shelf (Tree input shelf) lexemes end b → a ≡ b
     one_token a b (no_token f i) (no_token g j) = ap (λ fault. faulty shelf (lexical_line fault)) (same_fault f g i.faulty j.faulty)
     one_token a b (no_token f i) (no_spelling q v) = absurd (findings.inside_has_no_fault lexemes end q f i v)
     one_token a b (no_token f i) (too_deep q v) = absurd (findings.inside_not_too_deep lexemes end q f i v)
@@ -73,22 +71,23 @@ module _ (scripts : OneScript) (findings : HasOneFinding SourceText (SpellsSourc
     one_token a b (a_tree tree script x takes t) (a_tree other more y also u) =
         same_tree tree other script more x y (findings.one_taken lexemes end tree other script more takes also) t u
 
-  one_input : (input : List ℕ) (shelf : List ModuleState) (a b : Answer) → InputAnswers input shelf a → InputAnswers input shelf b → a ≡ b
+  one_input : (input : List ℕ) (shelf : List ModuleState) (a b : Answer) → RunsText input shelf a → RunsText input shelf b → a ≡ b
   one_input input shelf a b s t =
       let same = cuttings input 0 s.lexemes t.lexemes s.end t.end s.tokens t.tokens in
-      let here = subst (λ (ls : List Lexeme). TokenAnswers input shelf ls s.end a) same.0 s.answered in
-      let there = subst (λ (e : TextEnd). TokenAnswers input shelf t.lexemes e a) same.1 here in
+      let here = subst (λ (ls : List Lexeme). DataPart shelf (Tree input shelf) ls s.end a) same.0 s.answered in
+      let there = subst (λ (e : TextEnd). DataPart shelf (Tree input shelf) t.lexemes e a) same.1 here in
       one_token input shelf t.lexemes t.end a b there t.answered
 
-  one_run : (input : List ℕ) (shelf : List ModuleState) (a b : Answer) → RunAnswers input shelf a → RunAnswers input shelf b → a ≡ b
+  one_run : (input : List ℕ) (shelf : List ModuleState) (a b : Answer) → Within input shelf (RunsText input shelf) a → Within input shelf (RunsText input shelf) b → a ≡ b
   one_run input shelf a b (within x small s) (within y fits t) = one_input input shelf x y s t
   one_run input shelf a b (within x small s) (too_large past) = absurd (omega arith)
   one_run input shelf a b (too_large past) (within y fits t) = absurd (omega arith)
   one_run input shelf a b (too_large past) (too_large more) = refl
 
-  one_command : (command : Option Command) (input : List ℕ) (shelf : List ModuleState) (a b : Answer) → CommandAnswers command input shelf a → CommandAnswers command input shelf b → a ≡ b
-  one_command None input shelf a b s t = s ∙ sym t
-  one_command (Some Run) input shelf a b s t = one_run input shelf a b s t
-
   pub one : HasOneAnswer
-  one words input shelf a b s t = one_command (command_of words) input shelf a b s t
+  one None input shelf a b fixed s t = s ∙ sym t
+  one (Some Run) input shelf a b fixed s t = one_run input shelf a b s t
+
+  pub one_status : HasOneStatus
+  one_status None input shelf a b s t = ap (λ (x : Answer). x.status) (s ∙ sym t)
+  one_status (Some Run) input shelf a b s t = ap (λ (x : Answer). x.status) (one_run input shelf a b s t)

@@ -1,151 +1,94 @@
--- Answers that were written whole or in part, and the statuses that tell of them.
-use Rattle.std.proofs.Common.{◌≡◌, ℕ, List, Option, Some, None, Continue, Result, Ok, Err, IsErr, refl, sym, ap, subst, ◌∙◌}
-use Rattle.std.specs.Prelude.{if◌then◌else◌, ◌==◌}
-use Rattle.std.specs.Result.{result_from_control_flow}
+-- Answers that were written whole or in part.
+use Rattle.std.proofs.Common.{◌≡◌, ℕ, List, [], ◌∷◌, ◌++◌, Option, Some, None, Continue, Result, Ok, Err, IsErr, refl, subst, ◌∙◌, arith}
+use Rattle.std.specs.Result.{IsErrAnd, result_from_control_flow}
 use Rattle.ssi_base.specs.declared.outside.Failed.{Failed}
 use Rattle.ssi_base.specs.Faults.{Faults}
 use Rattle.ssi_base.specs.Streams.{Writes}
 use Rattle.ssi_trackside.specs.Module.{ModuleState}
 use Rattle.ssi_script.specs.declared.step.ScriptFault.{ScriptFault}
-use Rattle.ssi_script.specs.Traces.{Piece}
+use Rattle.ssi_script.specs.declared.step.ScriptStep.{ScriptStep}
+use Rattle.ssi_script.specs.Sessions.{Session, after_steps}
+use Rattle.ssi_script.specs.Traces.{steps_pieces}
 use Rattle.ssi_run.specs.declared.status.Status.{Status}
-use Rattle.ssi_run.specs.declared.status.Status.TheVariants.{Done, Faulty, NoShape, SourceFault, SinkFault, BadScript, NoMemory, PastLimit}
+use Rattle.ssi_run.specs.declared.status.Status.TheVariants.{Done, BadScript}
+use Rattle.ssi_run.specs.declared.status.Failure.{Failure}
+use Rattle.ssi_run.specs.declared.status.Failure.TheVariants.{Source, Sink, Memory}
 use Rattle.ssi_run.specs.FaultLines.{script_fault_line}
-use Rattle.ssi_run.specs.Statuses.{statuses, number_of}
 use Rattle.ssi_run.specs.Stops.{left_by, WritesPieces}
-use Rattle.ssi_run.specs.Answers.{Answer, alone, script_answer, TreeAnswers, name_faults, a_plan, TokenAnswers, no_token, no_spelling, too_deep, a_tree, InputAnswers, RunAnswers, within, too_large}
-use Rattle.ssi_run.specs.Outcomes.{Replies, told_of}
-use Rattle.ssi_run.proofs.LastLine.{stops_before, writes_alone, writes_last}
-
--- ---- what is told of what was written
+use Rattle.ssi_run.specs.Answers.{Answer, Reading, alone, script_answer}
+use Rattle.ssi_run.specs.Outcomes.{Gives, Replies, told_of}
+use Rattle.ssi_run.proofs.LastLine.{left_behind, piece_of, stops_before, writes_alone, writes_last}
+use Rattle.ssi_run.proofs.StepsLeft.{left_by_steps}
 
 module _ (IsSuch : Answer → Type 0) {old new : Option (List ℕ)} {a b : Faults} {shelf left : List ModuleState} where
-  replies : (answer : Answer) → IsSuch answer → (status : Status) → number_of status ≡ answer.status → (written : Result (Unit {0}) Failed) → WritesPieces answer.pieces old new a b shelf left written
-      → Replies IsSuch old new a b shelf left (told_of written status)
-  replies answer such status same (Ok x) w = record {
-    answer = answer;
-    is_such = such;
-    status = same;
-    writes = record { whole = w.whole; part = tt; cause = record { goes_on = w.cause.goes_on; failed = tt } };
+  -- what is told of an answer whose pieces were to be written
+  pub replies : (answer : Answer) → IsSuch answer → left_by shelf answer.pieces ≡ answer.left → (written : Result (Unit {0}) Failed) → WritesPieces answer.pieces old new a b shelf left written
+      → Replies IsSuch old new a b shelf left (told_of written answer.status)
+  replies answer such ends (Ok x) w = record {
+    gives = record { answer = answer; is_such = such; status_is = refl; appended = w.whole.appended; left_is = w.whole.done ∙ ends };
+    goes_on = w.cause.goes_on;
   }
-  replies answer such status same (Err failed) w = record {
-    answer = answer;
-    is_such = such;
-    status = tt;
-    writes = record { whole = tt; part = w.part; cause = record { goes_on = w.cause.goes_on; failed = w.cause.failed } };
+  replies answer such ends (Err failed) w = record {
+    gives = record { answer = answer; is_such = such; stops = w.part; failed = w.cause.failed };
+    goes_on = w.cause.goes_on;
   }
+
+module _ (IsSuch IsToo : Answer → Type 0) (f : (x : Answer) → IsSuch x → IsToo x) where
+  gives_too : (old new : Option (List ℕ)) (a b : Faults) (shelf left : List ModuleState) (result : Result Status Failure) → Gives IsSuch old new a b shelf left result → Gives IsToo old new a b shelf left result
+  gives_too old new a b shelf left (Ok status) g = record { answer = g.answer; is_such = f g.answer g.is_such; status_is = g.status_is; appended = g.appended; left_is = g.left_is }
+  gives_too old new a b shelf left (Err Source) g = absurd g
+  gives_too old new a b shelf left (Err Sink) g = record { answer = g.answer; is_such = f g.answer g.is_such; stops = g.stops; failed = g.failed }
+  gives_too old new a b shelf left (Err Memory) g = g
 
   -- an answer of one sort is one of another
-  pub mapped : (IsToo : Answer → Type 0) → ((x : Answer) → IsSuch x → IsToo x) → (result : Result Status Failed) → Replies IsSuch old new a b shelf left result → Replies IsToo old new a b shelf left result
-  mapped IsToo f result r = record { answer = r.answer; is_such = f r.answer r.is_such; status = r.status; writes = r.writes }
+  pub mapped : {old new : Option (List ℕ)} {a b : Faults} {shelf left : List ModuleState} (result : Result Status Failure) → Replies IsSuch old new a b shelf left result → Replies IsToo old new a b shelf left result
+  mapped {old = old} {new = new} {a = a} {b = b} {shelf = shelf} {left = left} result r = record { gives = gives_too old new a b shelf left result r.gives; goes_on = r.goes_on }
 
 -- a text that is the whole answer
-pub replies_alone : (IsSuch : Answer → Type 0) {old new : Option (List ℕ)} {a b : Faults} (shelf : List ModuleState) (status : Status) (text : List ℕ) → IsSuch (alone shelf (number_of status) text)
+pub replies_alone : (IsSuch : Answer → Type 0) {old new : Option (List ℕ)} {a b : Faults} (shelf : List ModuleState) (status : Status) (reading : Reading) (text : List ℕ) → IsSuch (alone shelf status reading text)
     → (written : Result (Unit {0}) Failed) → Writes old new a b text written → Replies IsSuch old new a b shelf shelf (told_of written status)
-replies_alone IsSuch shelf status text such written w = replies IsSuch (alone shelf (number_of status) text) such status refl written (writes_alone shelf text written w)
+replies_alone IsSuch shelf status reading text such written w = replies IsSuch (alone shelf status reading text) such refl written (writes_alone shelf text written w)
 
--- what is told has the status that was given
-pub told_not : (written : Result (Unit {0}) Failed) (status other : Status) → told_of written status ≡ Ok other → status ≡ other
-told_not (Ok x) status other e = cc
-told_not (Err failed) status other e = absurd cc
+-- nothing was written
+pub replies_nothing : (IsSuch : Answer → Type 0) (old : Option (List ℕ)) (a : Faults) (shelf : List ModuleState) → Replies IsSuch old old a a shelf shelf (Err Memory)
+replies_nothing IsSuch old a shelf = record { gives = record { written = refl; modules = refl }; goes_on = record { later = omega arith; most = refl } }
 
 -- ---- the answer to a script
 
--- the answer to a script that writes these pieces
-abbrev pub IsScriptAnswer : List ℕ → List ModuleState → List Piece → Option ScriptFault → Answer → Type 0
-IsScriptAnswer input shelf pieces fault answer = answer ≡ script_answer input shelf pieces fault
+-- the answer to a script in a session
+abbrev pub IsScriptAnswer : List ℕ → List ScriptStep → Option ScriptFault → Session → Answer → Type 0
+IsScriptAnswer input steps fault session answer = answer ≡ script_answer input steps fault session
 
-module _ (input : List ℕ) (pieces : List Piece) {old new : Option (List ℕ)} {a b : Faults} {shelf left : List ModuleState} where
+module _ (input : List ℕ) (steps : List ScriptStep) (session : Session) {old new : Option (List ℕ)} {a b : Faults} {left : List ModuleState} where
   -- its steps stopped
-  pub replies_stopped : (fault : Option ScriptFault) {first : Result (Unit {0}) Failed} {result : Result Status Failed} → IsErr first → IsErr result → WritesPieces pieces old new a b shelf left first
-      → Replies (IsScriptAnswer input shelf pieces fault) old new a b shelf left result
+  pub replies_stopped : (fault : Option ScriptFault) {first : Result (Unit {0}) Failed} {result : Result Status Failure} → IsErr first → IsErrAnd result (λ failure. failure ≡ Sink) → WritesPieces (steps_pieces steps session) old new a b session.shelf left first
+      → Replies (IsScriptAnswer input steps fault session) old new a b session.shelf left result
   replies_stopped fault {first = Ok x} failed told w = absurd cc
-  replies_stopped fault {first = Err e} {result = Ok x} failed told w = absurd cc
-  replies_stopped None {first = Err e} {result = Err d} failed told w = record {
-    answer = script_answer input shelf pieces None;
-    is_such = refl;
-    status = tt;
-    writes = record { whole = tt; part = w.part; cause = record { goes_on = w.cause.goes_on; failed = w.cause.failed } };
-  }
-  replies_stopped (Some fault) {first = Err e} {result = Err d} failed told w = record {
-    answer = script_answer input shelf pieces (Some fault);
-    is_such = refl;
-    status = tt;
-    writes = record { whole = tt; part = stops_before pieces _ w.part; cause = record { goes_on = w.cause.goes_on; failed = w.cause.failed } };
-  }
+  replies_stopped fault {first = Err e} {result = Ok status} failed told w = absurd told
+  replies_stopped None {first = Err e} {result = Err failure} failed told w = rw told (record {
+    gives = record { answer = script_answer input steps None session; is_such = refl; stops = w.part; failed = w.cause.failed };
+    goes_on = w.cause.goes_on;
+  })
+  replies_stopped (Some fault) {first = Err e} {result = Err failure} failed told w = rw told (record {
+    gives = record { answer = script_answer input steps (Some fault) session; is_such = refl; stops = stops_before (steps_pieces steps session) _ w.part; failed = w.cause.failed };
+    goes_on = w.cause.goes_on;
+  })
+
+  -- its steps are all of it
+  pub replies_done : {first : Result (Unit {0}) Failed} {flow : _} {value : Unit {0}} → flow ≡ Continue value → first ≡ result_from_control_flow flow → WritesPieces (steps_pieces steps session) old new a b session.shelf left first
+      → Replies (IsScriptAnswer input steps None session) old new a b session.shelf left (Ok Done)
+  replies_done {first = Ok x} was is w = replies (IsScriptAnswer input steps None session) (script_answer input steps None session) refl (left_by_steps steps session) (Ok x) w
+  replies_done {first = Err e} was is w = absurd cc
 
 -- its fault is told behind its pieces
-pub replies_bad : (input : List ℕ) (pieces : List Piece) {old mid new : Option (List ℕ)} {a b c : Faults} {shelf left : List ModuleState} (fault : ScriptFault) {first : Result (Unit {0}) Failed} {flow : _} {value : Unit {0}}
-    → flow ≡ Continue value → first ≡ result_from_control_flow flow → WritesPieces pieces old mid a b shelf left first
+pub replies_bad : (input : List ℕ) (steps : List ScriptStep) (session : Session) {old mid new : Option (List ℕ)} {a b c : Faults} {left : List ModuleState} (fault : ScriptFault) {first : Result (Unit {0}) Failed} {flow : _} {value : Unit {0}}
+    → flow ≡ Continue value → first ≡ result_from_control_flow flow → WritesPieces (steps_pieces steps session) old mid a b session.shelf left first
     → (written : Result (Unit {0}) Failed) → Writes mid new b c (script_fault_line input fault) written
-    → Replies (IsScriptAnswer input shelf pieces (Some fault)) old new a c shelf left (told_of written BadScript)
-replies_bad input pieces {shelf = shelf} fault was is one written two =
-    replies (IsScriptAnswer input shelf pieces (Some fault)) (script_answer input shelf pieces (Some fault)) refl BadScript refl written (writes_last pieces (script_fault_line input fault) was is one written two)
-
--- ---- numbers of statuses
-
--- a status that was told
-abbrev pub ok : Status → Result Status Failed
-ok status = Ok status
-
-pub ok_status : (status other : Status) → ok status ≡ ok other → status ≡ other
-ok_status status other e = cc
-
--- each number is that of one status
-abbrev at : ℕ → Status
-at n =
-    if n == 0 then Done else
-    (if n == 1 then Faulty else
-    (if n == 2 then NoShape else
-    (if n == 3 then SourceFault else
-    (if n == 4 then SinkFault else
-    (if n == 7 then BadScript else
-    (if n == 8 then NoMemory else PastLimit))))))
-
-at_number : (status : Status) → at (number_of status) ≡ status
-at_number Done = refl
-at_number Faulty = refl
-at_number NoShape = refl
-at_number SourceFault = refl
-at_number SinkFault = refl
-at_number BadScript = refl
-at_number NoMemory = refl
-at_number PastLimit = refl
-
-pub one_status : (a b : Status) → number_of a ≡ number_of b → a ≡ b
-one_status a b e = sym (at_number a) ∙ subst (λ n. at (number_of a) ≡ at n) e refl ∙ at_number b
-
--- ---- the statuses of answers
-
--- An input within the limit has a script, or its data part has faults. These leave the modules as they were.
-pub data InputEnds (shelf : List ModuleState) (x : Answer) : Type 0 where
-  all_done : x.status ≡ statuses.done → InputEnds shelf x
-  bad_script : x.status ≡ statuses.bad_script → InputEnds shelf x
-  has_faults : x.status ≡ statuses.faulty → left_by shelf x.pieces ≡ shelf → InputEnds shelf x
-
--- or it is too large
-pub data RunEnds (shelf : List ModuleState) (x : Answer) : Type 0 where
-  as_within : InputEnds shelf x → RunEnds shelf x
-  past_limit : x.status ≡ statuses.past_limit → left_by shelf x.pieces ≡ shelf → RunEnds shelf x
-
-script_ends : (input : List ℕ) (shelf : List ModuleState) (pieces : List Piece) (fault : Option ScriptFault) (x : Answer) → x ≡ script_answer input shelf pieces fault → InputEnds shelf x
-script_ends input shelf pieces None x e = all_done (ap (λ (y : Answer). y.status) e)
-script_ends input shelf pieces (Some fault) x e = bad_script (ap (λ (y : Answer). y.status) e)
-
-module _ (shelf : List ModuleState) {input : List ℕ} where
-  tree_ends : {tree : _} {script : _} {end : _} (x : Answer) → TreeAnswers input shelf tree script end x → InputEnds shelf x
-  tree_ends x (name_faults some) = has_faults refl refl
-  tree_ends x (a_plan y none p) = script_ends input shelf _ p.fault y p.answer_is
-
-  token_ends : {lexemes : _} {end : _} (x : Answer) → TokenAnswers input shelf lexemes end x → InputEnds shelf x
-  token_ends x (no_token fault inside) = has_faults refl refl
-  token_ends x (no_spelling place fault) = has_faults refl refl
-  token_ends x (too_deep place fault) = has_faults refl refl
-  token_ends x (a_tree tree script y takes t) = tree_ends y t
-
-  pub input_ends : (x : Answer) → InputAnswers input shelf x → InputEnds shelf x
-  input_ends x answers = token_ends x answers.answered
-
-  pub run_ends : (x : Answer) → RunAnswers input shelf x → RunEnds shelf x
-  run_ends x (within y small answers) = as_within (input_ends y answers)
-  run_ends x (too_large past) = past_limit refl refl
+    → Replies (IsScriptAnswer input steps (Some fault) session) old new a c session.shelf left (told_of written BadScript)
+replies_bad input steps session {old = old} {new = new} {a = a} {c = c} {left = left} fault was is one written two =
+    let pieces = steps_pieces steps session in
+    let line = script_fault_line input fault in
+    let all = subst (λ (standing : List ModuleState). WritesPieces (pieces ++ piece_of line standing ∷ []) old new a c session.shelf left written) (left_by_steps steps session)
+    (writes_last pieces line was is one written two) in
+    replies (IsScriptAnswer input steps (Some fault) session) (script_answer input steps (Some fault) session) refl
+    (left_behind session.shelf pieces (piece_of line (after_steps steps session).shelf)) written all

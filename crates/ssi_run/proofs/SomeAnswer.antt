@@ -17,13 +17,12 @@ use Rattle.ssi_script.specs.declared.step.ScriptFault.{ScriptFault}
 use Rattle.ssi_script.specs.declared.step.ScriptStep.{ScriptStep}
 use Rattle.ssi_script.specs.Scripts.{IsScript}
 use Rattle.ssi_script.specs.Sessions.{session_of}
-use Rattle.ssi_script.specs.Traces.{steps_pieces}
-use Rattle.ssi_run.specs.declared.words.Command.{Command}
 use Rattle.ssi_run.specs.declared.words.Command.TheVariants.{Run}
 use Rattle.ssi_run.specs.FaultLines.{lexical_line, syntax_line, depth_line, name_fault_lines}
-use Rattle.ssi_run.specs.Statuses.{statuses, input_limit, usage_line, too_large_line}
-use Rattle.ssi_run.specs.Answers.{Answer, alone, faulty, script_answer, PlanAnswers, TreeAnswers, name_faults, a_plan, TokenAnswers, no_token, no_spelling, too_deep, a_tree, InputAnswers, RunAnswers, within, too_large, CommandAnswers, HasAnAnswer}
-use Rattle.ssi_run.specs.Words.{command_of}
+use Rattle.ssi_run.specs.Statuses.{input_limit, usage_line, too_large_line}
+use Rattle.ssi_run.specs.declared.status.Status.TheVariants.{NoShape, PastLimit}
+use Rattle.ssi_run.specs.Answers.{Answer, DataPart, HasAnswer, RunsText, Script, TooMuch, Unread, Within, a_plan, a_tree, alone, faulty, name_faults, no_spelling, no_token, script_answer, too_deep, too_large, within}
+use Rattle.ssi_run.proofs.Layers.{Tree}
 
 within_or_not : (n limit : ℕ) → (n ≤ limit) ⊎ (limit < n)
 within_or_not n limit = by (nat_le n limit) refl
@@ -40,41 +39,39 @@ empty_or_not (x ∷ xs) = inr (λ e. cc)
 abbrev pub SomeScript : Type 0
 SomeScript = (plan : Plan) (text : List ℕ) (left : List Lexeme) (end : TextEnd) → (steps : List ScriptStep) × (fault : Option ScriptFault) × IsScript plan text left end steps fault
 
-module _ (scripts : SomeScript) (input : List ℕ) (shelf : List ModuleState) (script : List Lexeme) (end : TextEnd) where
-  plan_answer : (plan : Plan) → (answer : Answer) × PlanAnswers input shelf plan script end answer
+module _ (scripts : SomeScript) (input : List ℕ) (shelf : List ModuleState) (tree : SourceText) (behind : List Lexeme) (end : TextEnd) where
+  plan_answer : (plan : Plan) → (answer : Answer) × Script input shelf plan behind end answer
   plan_answer plan =
-      let is = scripts plan input script end in
-      (script_answer input shelf (steps_pieces is.0 (session_of plan shelf)) is.1, record { steps = is.0; fault = is.1; script_is = is.2; answer_is = refl })
+      let is = scripts plan input behind end in
+      (script_answer input is.0 is.1 (session_of plan shelf), record { steps = is.0; fault = is.1; script_is = is.2; answer_is = refl })
 
-  tree_by : (tree : SourceText) → (faults_of input tree ≡ []) ⊎ (faults_of input tree ≡ [] → ⊥) → (answer : Answer) × TreeAnswers input shelf tree script end answer
-  tree_by tree (inl none) = let p = plan_answer (resolved input tree) in (p.0, a_plan p.0 none p.1)
-  tree_by tree (inr some) = (faulty shelf (name_fault_lines input (faults_of input tree)), name_faults some)
+  tree_by : (faults_of input tree ≡ []) ⊎ (faults_of input tree ≡ [] → ⊥) → (answer : Answer) × Tree input shelf tree behind end answer
+  tree_by (inl none) = let p = plan_answer (resolved input tree) in (p.0, a_plan p.0 none p.1)
+  tree_by (inr some) = (faulty shelf (name_fault_lines input (faults_of input tree)), name_faults some)
 
-  tree_answer : (tree : SourceText) → (answer : Answer) × TreeAnswers input shelf tree script end answer
-  tree_answer tree = tree_by tree (empty_or_not (faults_of input tree))
+  tree_answer : (answer : Answer) × Tree input shelf tree behind end answer
+  tree_answer = tree_by (empty_or_not (faults_of input tree))
 
 module _ (scripts : SomeScript) (findings : HasOneFinding SourceText (SpellsSource deepest) (AtAnyDepth SourceText SpellsSource) ends_file)
     (cuttings : (text : List ℕ) (start : ℕ) → (lexemes : List Lexeme) × (end : TextEnd) × AreTokens text start lexemes end) where
   module _ (input : List ℕ) (shelf : List ModuleState) where
-    token_by : (lexemes : List Lexeme) (end : TextEnd) → Finding SourceText (SpellsSource deepest) (AtAnyDepth SourceText SpellsSource) ends_file lexemes end → (answer : Answer) × TokenAnswers input shelf lexemes end answer
-    token_by lexemes end (taken tree script takes) = let t = tree_answer scripts input shelf script end tree in (t.0, a_tree tree script t.0 takes t.1)
+    token_by : (lexemes : List Lexeme) (end : TextEnd) → Finding SourceText (SpellsSource deepest) (AtAnyDepth SourceText SpellsSource) ends_file lexemes end
+        → (answer : Answer) × DataPart shelf (Tree input shelf) lexemes end answer
+    token_by lexemes end (taken tree behind takes) = let t = tree_answer scripts input shelf tree behind end in (t.0, a_tree tree behind t.0 takes t.1)
     token_by lexemes end (fault_at place fault) = (faulty shelf (syntax_line place), no_spelling place fault)
     token_by lexemes end (too_deep_at place fault) = (faulty shelf (depth_line place), too_deep place fault)
     token_by lexemes end (inside fault stops) = (faulty shelf (lexical_line fault), no_token fault stops)
 
-    input_answer : (answer : Answer) × InputAnswers input shelf answer
+    input_answer : (answer : Answer) × RunsText input shelf answer
     input_answer =
         let cut = cuttings input 0 in
         let t = token_by cut.0 cut.1 (findings.some cut.0 cut.1) in
         (t.0, record { lexemes = cut.0; end = cut.1; tokens = cut.2; answered = t.1 })
 
-    run_answer : (length input ≤ input_limit) ⊎ (input_limit < length input) → (answer : Answer) × RunAnswers input shelf answer
+    run_answer : (length input ≤ input_limit) ⊎ (input_limit < length input) → (answer : Answer) × Within input shelf (RunsText input shelf) answer
     run_answer (inl small) = let a = input_answer in (a.0, within a.0 small a.1)
-    run_answer (inr past) = (alone shelf statuses.past_limit too_large_line, too_large past)
+    run_answer (inr past) = (alone shelf PastLimit TooMuch too_large_line, too_large past)
 
-    some_command : (command : Option Command) → (answer : Answer) × CommandAnswers command input shelf answer
-    some_command None = (alone shelf statuses.no_shape usage_line, refl)
-    some_command (Some Run) = run_answer (within_or_not (length input) input_limit)
-
-  pub some : HasAnAnswer
-  some words input shelf = some_command input shelf (command_of words)
+  pub some : HasAnswer
+  some None input shelf = (alone shelf NoShape Unread usage_line, refl)
+  some (Some Run) input shelf = run_answer input shelf (within_or_not (length input) input_limit)

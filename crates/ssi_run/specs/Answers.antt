@@ -1,7 +1,5 @@
 -- What the program answers to its words and its input.
 use Rattle.std.specs.Prelude.{◌≡◌, ◌≢◌, ℕ, ◌<◌, ◌≤◌, List, [], ◌∷◌, ◌++◌, length, Option, Some, None}
-use Rattle.std.specs.Option.{IfSome}
-use Rattle.std.specs.Io.KnownBytes.{Appends}
 use Rattle.ssi_base.specs.declared.place.Place.{Place}
 use Rattle.ssi_lexer.specs.declared.token.LexFault.{LexFault}
 use Rattle.ssi_lexer.specs.declared.token.TextEnd.{TextEnd}
@@ -17,112 +15,105 @@ use Rattle.ssi_names.specs.Rows.{resolved}
 use Rattle.ssi_script.specs.declared.step.ScriptFault.{ScriptFault}
 use Rattle.ssi_script.specs.declared.step.ScriptStep.{ScriptStep}
 use Rattle.ssi_script.specs.Scripts.{IsScript}
-use Rattle.ssi_script.specs.Sessions.{session_of}
-use Rattle.ssi_script.specs.Traces.{Piece, steps_pieces, text_of}
+use Rattle.ssi_script.specs.Sessions.{Session, after_steps, session_of}
+use Rattle.ssi_script.specs.Traces.{ShelfPiece, steps_pieces}
 use Rattle.ssi_trackside.specs.Module.{ModuleState}
+use Rattle.ssi_run.specs.declared.status.Status.{Status}
+use Rattle.ssi_run.specs.declared.status.Status.TheVariants.{Done, Faulty, NoShape, BadScript, PastLimit}
 use Rattle.ssi_run.specs.declared.words.Command.{Command}
 use Rattle.ssi_run.specs.declared.words.Command.TheVariants.{Run}
 use Rattle.ssi_run.specs.FaultLines.{lexical_line, syntax_line, depth_line, name_fault_lines, script_fault_line}
-use Rattle.ssi_run.specs.Statuses.{statuses, input_limit, usage_line, too_large_line}
-use Rattle.ssi_run.specs.Stops.{StopsIn, left_by}
-use Rattle.ssi_run.specs.Words.{command_of}
+use Rattle.ssi_run.specs.Statuses.{input_limit, usage_line, too_large_line}
 
--- a status, and what is written, piece by piece, each with the modules as they stand when it is written
+-- how much of its source an answer takes: nothing, all to the end, or more than the limit
+pub data Reading : Type 0 where
+  Unread : Reading
+  ToEnd : Reading
+  TooMuch : Reading
+
+-- an answer: its status; how much it takes of the source; what is written, piece by piece, each with the modules as they stand when it is written; and the modules
+-- as they are left
 pub record Answer : Type 0 where
-  pub status : ℕ
-  pub pieces : List Piece
+  pub status : Status
+  pub reading : Reading
+  pub pieces : List ShelfPiece
+  pub left : List ModuleState
 
--- a line, or some lines of faults, alone: the modules stay as they are
-abbrev pub alone : List ModuleState → ℕ → List ℕ → Answer
-alone shelf status text = record { status = status; pieces = record { text = text; shelf = shelf } ∷ [] }
+-- a text alone: the modules stay as they are
+abbrev pub alone : List ModuleState → Status → Reading → List ℕ → Answer
+alone shelf status reading text = record { status = status; reading = reading; pieces = record { text = text; standing = shelf } ∷ []; left = shelf }
 
--- the answer to an input whose data part has faults
+-- the answer to an input whose data part has faults: their lines
 abbrev pub faulty : List ModuleState → List ℕ → Answer
-faulty shelf lines = alone shelf statuses.faulty lines
+faulty shelf lines = alone shelf Faulty ToEnd lines
 
--- The answer to a script: the trace of its steps, and then the line of its fault, if it has one.
-abbrev pub script_answer : List ℕ → List ModuleState → List Piece → Option ScriptFault → Answer
-script_answer input shelf pieces None = record { status = statuses.done; pieces = pieces }
-script_answer input shelf pieces (Some fault) =
-    record { status = statuses.bad_script; pieces = pieces ++ record { text = script_fault_line input fault; shelf = left_by shelf pieces } ∷ [] }
+-- the answer to a script: the trace of its steps, and then the line of its fault, if it has one
+abbrev pub script_answer : List ℕ → List ScriptStep → Option ScriptFault → Session → Answer
+script_answer input steps None session =
+    record { status = Done; reading = ToEnd; pieces = steps_pieces steps session; left = (after_steps steps session).shelf }
+script_answer input steps (Some fault) session =
+    let left = (after_steps steps session).shelf in
+    record { status = BadScript; reading = ToEnd; pieces = steps_pieces steps session ++ record { text = script_fault_line input fault; standing = left } ∷ []; left = left }
 
--- What is answered to a data set and what stands behind its data part: what its script is, from the start of the interlocking with these modules.
-pub record PlanAnswers (input : List ℕ) (shelf : List ModuleState) (plan : Plan) (script : List Lexeme) (end : TextEnd) (answer : Answer) : Type 0 where
+-- What is answered to a data set, and to the tokens behind it, which are its script, from the start of the interlocking with these modules.
+pub record Script (input : List ℕ) (shelf : List ModuleState) (plan : Plan) (behind : List Lexeme) (end : TextEnd) (answer : Answer) : Type 0 where
   pub steps : List ScriptStep
   pub fault : Option ScriptFault
-  pub script_is : IsScript plan input script end steps fault
-  pub answer_is : answer ≡ script_answer input shelf (steps_pieces steps (session_of plan shelf)) fault
+  pub script_is : IsScript plan input behind end steps fault
+  pub answer_is : answer ≡ script_answer input steps fault (session_of plan shelf)
 
--- What is answered to an input whose data part spells a tree: the faults of its names, or what its data set is answered.
-pub data TreeAnswers (input : List ℕ) (shelf : List ModuleState) (tree : SourceText) (script : List Lexeme) (end : TextEnd) : Answer → Type 0 where
-  name_faults : faults_of input tree ≢ [] → TreeAnswers input shelf tree script end (faulty shelf (name_fault_lines input (faults_of input tree)))
-  a_plan : (answer : Answer) → faults_of input tree ≡ [] → PlanAnswers input shelf (resolved input tree) script end answer → TreeAnswers input shelf tree script end answer
+-- What is answered to a tree and to the tokens behind it: the faults of its names, or what its data set is answered, with the same tokens behind it.
+pub data Named (input : List ℕ) (shelf : List ModuleState) (OfPlan : Plan → List Lexeme → TextEnd → Answer → Type 0) (tree : SourceText) (behind : List Lexeme) (end : TextEnd) : Answer → Type 0 where
+  name_faults : faults_of input tree ≢ [] → Named input shelf OfPlan tree behind end (faulty shelf (name_fault_lines input (faults_of input tree)))
+  a_plan : (answer : Answer) → faults_of input tree ≡ [] → OfPlan (resolved input tree) behind end answer → Named input shelf OfPlan tree behind end answer
 
--- What is answered to the tokens of an input: the first fault of its data part, or what its tree is answered.
-pub data TokenAnswers (input : List ℕ) (shelf : List ModuleState) (lexemes : List Lexeme) (end : TextEnd) : Answer → Type 0 where
-  no_token : (fault : LexFault) → StopsInside SourceText (SpellsSource deepest) lexemes end fault → TokenAnswers input shelf lexemes end (faulty shelf (lexical_line fault))
-  no_spelling : (place : Place) → FirstFault SourceText (SpellsSource deepest) (AtAnyDepth SourceText SpellsSource) ends_file lexemes end place → TokenAnswers input shelf lexemes end (faulty shelf (syntax_line place))
-  too_deep : (place : Place) → FirstTooDeep SourceText (SpellsSource deepest) (AtAnyDepth SourceText SpellsSource) ends_file lexemes place → TokenAnswers input shelf lexemes end (faulty shelf (depth_line place))
-  a_tree : (tree : SourceText) (script : List Lexeme) (answer : Answer) → Takes SourceText (SpellsSource deepest) ends_file lexemes end tree script
-      → TreeAnswers input shelf tree script end answer → TokenAnswers input shelf lexemes end answer
+-- What is answered to tokens that begin with a data part: its first fault, or what its tree is answered, with the tokens behind it.
+pub data DataPart (shelf : List ModuleState) (OfTree : SourceText → List Lexeme → TextEnd → Answer → Type 0) (lexemes : List Lexeme) (end : TextEnd) : Answer → Type 0 where
+  no_token : (fault : LexFault) → StopsInside SourceText (SpellsSource deepest) lexemes end fault → DataPart shelf OfTree lexemes end (faulty shelf (lexical_line fault))
+  no_spelling : (place : Place) → FirstFault SourceText (SpellsSource deepest) (AtAnyDepth SourceText SpellsSource) ends_file lexemes end place → DataPart shelf OfTree lexemes end (faulty shelf (syntax_line place))
+  too_deep : (place : Place) → FirstTooDeep SourceText (SpellsSource deepest) (AtAnyDepth SourceText SpellsSource) ends_file lexemes place → DataPart shelf OfTree lexemes end (faulty shelf (depth_line place))
+  a_tree : (tree : SourceText) (behind : List Lexeme) (answer : Answer) → Takes SourceText (SpellsSource deepest) ends_file lexemes end tree behind
+      → OfTree tree behind end answer → DataPart shelf OfTree lexemes end answer
 
--- what `run` answers to an input within the limit: what its tokens are answered
-pub record InputAnswers (input : List ℕ) (shelf : List ModuleState) (answer : Answer) : Type 0 where
+-- What is answered to a text: what its tokens are answered.
+pub record OfText (input : List ℕ) (OfTokens : List Lexeme → TextEnd → Answer → Type 0) (answer : Answer) : Type 0 where
   pub lexemes : List Lexeme
   pub end : TextEnd
   pub tokens : AreTokens input 0 lexemes end
-  pub answered : TokenAnswers input shelf lexemes end answer
+  pub answered : OfTokens lexemes end answer
 
--- what `run` answers: a fault where the input is too large
-pub data RunAnswers (input : List ℕ) (shelf : List ModuleState) : Answer → Type 0 where
-  within : (answer : Answer) → length input ≤ input_limit → InputAnswers input shelf answer → RunAnswers input shelf answer
-  too_large : input_limit < length input → RunAnswers input shelf (alone shelf statuses.past_limit too_large_line)
+-- What is answered to an input: that it is too large, or what it is answered within the limit.
+pub data Within (input : List ℕ) (shelf : List ModuleState) (OfInput : Answer → Type 0) : Answer → Type 0 where
+  within : (answer : Answer) → length input ≤ input_limit → OfInput answer → Within input shelf OfInput answer
+  too_large : input_limit < length input → Within input shelf OfInput (alone shelf PastLimit TooMuch too_large_line)
 
--- what a command answers to its input; where the words have no shape, the usage line
-abbrev pub CommandAnswers : Option Command → List ℕ → List ModuleState → Answer → Type 0
-CommandAnswers None input shelf answer = answer ≡ alone shelf statuses.no_shape usage_line
-CommandAnswers (Some Run) input shelf answer = RunAnswers input shelf answer
+-- what `run` answers to an input within the limit: its data part, and the script behind it
+abbrev pub RunsText : List ℕ → List ModuleState → Answer → Type 0
+RunsText input shelf = OfText input (DataPart shelf (Named input shelf (Script input shelf)))
 
--- what the program answers to its words and its input, with these modules
-abbrev pub Answers : List (List ℕ) → List ℕ → List ModuleState → Answer → Type 0
-Answers words input shelf answer = CommandAnswers (command_of words) input shelf answer
+-- what a command answers to its input, with these modules; where the words have no shape, the usage line
+abbrev pub Answers : Option Command → List ℕ → List ModuleState → Answer → Type 0
+Answers None input shelf answer = answer ≡ alone shelf NoShape Unread usage_line
+Answers (Some Run) input shelf answer = Within input shelf (RunsText input shelf) answer
 
--- the status is that of an answer, and tells of no failure from outside
-pub record IsAnswered (status : ℕ) : Type 0 where
-  pub read : status ≢ statuses.source_fault
-  pub written : status ≢ statuses.sink_fault
-  pub memory : status ≢ statuses.no_memory
+-- whether a command reads its input
+abbrev pub Reads : Option Command → Type 0
+Reads None = ⊥
+Reads (Some Run) = Unit {0}
 
--- all that the source has left, where it tells it
-abbrev pub IsInput : Option (List ℕ) → List ℕ → Type 0
-IsInput left input = IfSome left (λ all. input ≡ all)
+-- whether the output of a command is fixed by its input
+abbrev pub IsFixed : Option Command → Type 0
+IsFixed None = Unit {0}
+IsFixed (Some Run) = Unit {0}
 
--- the status is the answer's, its whole output was written, and the modules are as its last piece leaves them
-pub record Gives (old new : Option (List ℕ)) (shelf left : List ModuleState) (status : ℕ) (answer : Answer) : Type 0 where
-  pub same_status : status ≡ answer.status
-  pub appended : Appends old new (text_of answer.pieces)
-  pub done : left ≡ left_by shelf answer.pieces
+-- all words and every input have an answer, with any modules
+abbrev pub HasAnswer : Type 0
+HasAnswer = (command : Option Command) (input : List ℕ) (shelf : List ModuleState) → (answer : Answer) × Answers command input shelf answer
 
--- the answer to some input that the source may have had was given
-pub record GivesAnswer (words : List (List ℕ)) (input_left old new : Option (List ℕ)) (shelf left : List ModuleState) (status : ℕ) : Type 0 where
-  pub input : List ℕ
-  pub is_input : IsInput input_left input
-  pub answer : Answer
-  pub is_answer : Answers words input shelf answer
-  pub gives : Gives old new shelf left status answer
+-- and one status
+abbrev pub HasOneStatus : Type 0
+HasOneStatus = (command : Option Command) (input : List ℕ) (shelf : List ModuleState) (a b : Answer) → Answers command input shelf a → Answers command input shelf b → a.status ≡ b.status
 
--- Of the answer to such an input a part was written, and not the whole: it ends in some piece, and the modules are as they stand when that one is written.
-pub record GivesPart (words : List (List ℕ)) (input_left old new : Option (List ℕ)) (shelf left : List ModuleState) : Type 0 where
-  pub input : List ℕ
-  pub is_input : IsInput input_left input
-  pub answer : Answer
-  pub is_answer : Answers words input shelf answer
-  pub part : StopsIn answer.pieces old new left
-
--- there is an answer to all words and every input
-abbrev pub HasAnAnswer : Type 0
-HasAnAnswer = (words : List (List ℕ)) (input : List ℕ) (shelf : List ModuleState) → (answer : Answer) × Answers words input shelf answer
-
--- there is no second one
+-- and one answer, where the command fixes it
 abbrev pub HasOneAnswer : Type 0
-HasOneAnswer = (words : List (List ℕ)) (input : List ℕ) (shelf : List ModuleState) (a b : Answer) → Answers words input shelf a → Answers words input shelf b → a ≡ b
+HasOneAnswer = (command : Option Command) (input : List ℕ) (shelf : List ModuleState) (a b : Answer) → IsFixed command → Answers command input shelf a → Answers command input shelf b → a ≡ b

@@ -2,6 +2,8 @@ pub mod Statuses
 pub mod Stops
 pub mod Courses
 pub mod Answers
+pub mod Endings
+pub mod EndingLaws
 pub mod Outcomes
 pub mod Words
 pub mod FaultLines

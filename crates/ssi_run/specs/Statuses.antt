@@ -1,40 +1,28 @@
 -- The statuses that the program ends with, the lines that it writes in place of a trace, and its limit.
-use Rattle.std.specs.Prelude.{ℕ, List, codes}
+use Rattle.std.specs.Prelude.{ℕ, List, Result, Ok, Err, codes}
 use Rattle.ssi_run.specs.declared.status.Status.{Status}
-use Rattle.ssi_run.specs.declared.status.Status.TheVariants.{Done, Faulty, NoShape, SourceFault, SinkFault, BadScript, NoMemory, PastLimit}
+use Rattle.ssi_run.specs.declared.status.Status.TheVariants.{Done, Faulty, NoShape, BadScript, PastLimit}
+use Rattle.ssi_run.specs.declared.status.Failure.{Failure}
+use Rattle.ssi_run.specs.declared.status.Failure.TheVariants as failure
 
--- a number for each way to end
-pub record StatusNumbers : Type 0 where
-  -- all done, the input read to its end
-  pub done : ℕ
-  -- the data part has faults
-  pub faulty : ℕ
-  -- the words have no known shape
-  pub no_shape : ℕ
-  -- reading failed
-  pub source_fault : ℕ
-  -- writing failed
-  pub sink_fault : ℕ
-  -- a step of the script has a fault
-  pub bad_script : ℕ
-  -- memory ran out
-  pub no_memory : ℕ
-  -- the input is too large
-  pub past_limit : ℕ
-
-abbrev pub statuses : StatusNumbers
-statuses = record { done = 0; faulty = 1; no_shape = 2; source_fault = 3; sink_fault = 4; bad_script = 7; no_memory = 8; past_limit = 9 }
-
--- the number of each way to end
+-- the number of an answer's status: all done; the data part has faults; the words have no known shape; a step of the script has a fault; the input is too large
 abbrev pub number_of : Status → ℕ
-number_of Done = statuses.done
-number_of Faulty = statuses.faulty
-number_of NoShape = statuses.no_shape
-number_of SourceFault = statuses.source_fault
-number_of SinkFault = statuses.sink_fault
-number_of BadScript = statuses.bad_script
-number_of NoMemory = statuses.no_memory
-number_of PastLimit = statuses.past_limit
+number_of Done = 0
+number_of Faulty = 1
+number_of NoShape = 2
+number_of BadScript = 7
+number_of PastLimit = 9
+
+-- the number of what kept a whole answer back: reading failed, writing failed, memory ran out
+abbrev pub failure_number : Failure → ℕ
+failure_number failure.Source = 3
+failure_number failure.Sink = 4
+failure_number failure.Memory = 8
+
+-- the number to end with
+abbrev pub number_after : Result Status Failure → ℕ
+number_after (Ok status) = number_of status
+number_after (Err failure) = failure_number failure
 
 -- how many bytes the input has at most
 abbrev pub input_limit : ℕ

@@ -1,14 +1,13 @@
 //! An input within the limit: its data part is read, resolved and compiled, and its script is run.
 
-ghost use Rattle.std.specs.Prelude.{◌≡◌, ◌≢◌, ◌≤◌, All, Ok, length, IfOk, map};
+ghost use Rattle.std.specs.Prelude.{◌≡◌, ◌≢◌, ◌≤◌, All, Err, length, IfOk, map};
 ghost use Rattle.ssi_cycle.specs.Cores.{core_of};
 ghost use Rattle.ssi_identities.specs.Wells.{IsWell};
 ghost use Rattle.ssi_names.specs.Spelled.{IsSpelledIn};
 ghost use Rattle.ssi_script.specs.Meanings.{IsStepOf, cycles_in, most_cycles};
 ghost use Rattle.ssi_script.specs.Scripts.{IsScript};
 ghost use Rattle.ssi_script.specs.Sessions.{session_of};
-ghost use Rattle.ssi_script.specs.Traces.{steps_pieces};
-ghost use Rattle.ssi_run.specs.Answers.{InputAnswers, PlanAnswers, TreeAnswers, script_answer};
+ghost use Rattle.ssi_run.specs.Answers.{Named, RunsText, Script, script_answer};
 ghost use Rattle.ssi_run.specs.Outcomes.{Replies};
 ghost use Rattle.ssi_run.specs.Statuses.{input_limit};
 
@@ -17,8 +16,8 @@ use crate::fault_lines::{
     write_syntax_fault,
 };
 use crate::session::write_steps;
-use crate::status::{Status, told};
-use ssi_base::{Failed, OutOfMemory, Sink};
+use crate::status::{Failure, Status, told};
+use ssi_base::{OutOfMemory, Sink};
 use ssi_compiler::compile;
 use ssi_cycle::Interlocking;
 use ssi_identities::DataSet;
@@ -38,16 +37,15 @@ fn run_steps<K: Sink>(
     core: &mut Interlocking,
     sink: &mut K,
     shelf: &mut Vec<Box<dyn Trackside>>,
-) -> Result<Status, Failed>
+) -> Result<Status, Failure>
     requires begun { core.old ≡ core_of core.old.plan }
     requires full { length (map state shelf.old.items) ≡ 189 }
     requires can { All (IsStepOf core.old.plan) script.now.steps.items }
     requires within { cycles_in script.now.steps.items ≤ most_cycles }
     ensures answered { let states = map state shelf.old.items in
-        let pieces = steps_pieces script.now.steps.items (session_of core.old.plan states) in
-        Replies (λ answer. answer ≡ script_answer input.now states pieces script.now.fault)
+        Replies (λ answer. answer ≡ script_answer input.now script.now.steps.items script.now.fault (session_of core.old.plan states))
         (K.written sink.old) (K.written sink.new) (K.faults sink.old) (K.faults sink.new) states (map state shelf.new.items) result }
-    ensures memory { result ≢ Ok Status.NoMemory }
+    ensures memory { result ≢ Err Failure.Memory }
 {
     write_steps(sink, core, shelf, script.steps.as_slice())?;
     match script.fault {
@@ -73,22 +71,16 @@ fn run_image<K: Sink>(
     tokens: Tokens<'_>,
     sink: &mut K,
     shelf: &mut Vec<Box<dyn Trackside>>,
-) -> Result<Status, Failed>
+) -> Result<Status, Failure>
     requires full { length (map state shelf.old.items) ≡ 189 }
-    ensures answered { result ≢ Ok Status.NoMemory →
-        Replies (PlanAnswers tokens.entry.text (map state shelf.old.items) image tokens.entry.left tokens.entry.end)
+    ensures answered { Replies (Script tokens.entry.text (map state shelf.old.items) image tokens.entry.left tokens.entry.end)
         (K.written sink.old) (K.written sink.new) (K.faults sink.old) (K.faults sink.new)
         (map state shelf.old.items) (map state shelf.new.items) result }
-    ensures nothing { result ≡ Ok Status.NoMemory →
-        (sink.new ≡ sink.old) × (map state shelf.new.items ≡ map state shelf.old.items) }
+    ensures nothing { result ≡ Err Failure.Memory → sink.new ≡ sink.old }
 {
     let input = tokens.text();
-    let Ok(script) = script_of(alloc, &image, tokens) else {
-        return Ok(Status::NoMemory);
-    };
-    let Ok(mut core) = Interlocking::begin(alloc, image) else {
-        return Ok(Status::NoMemory);
-    };
+    let script = script_of(alloc, &image, tokens)?;
+    let mut core = Interlocking::begin(alloc, image)?;
     run_steps(input, &script, &mut core, sink, shelf)
 }
 
@@ -102,22 +94,17 @@ fn run_plan<K: Sink>(
     tokens: Tokens<'_>,
     sink: &mut K,
     shelf: &mut Vec<Box<dyn Trackside>>,
-) -> Result<Status, Failed>
+) -> Result<Status, Failure>
     requires well { IsWell plan }
     requires full { length (map state shelf.old.items) ≡ 189 }
-    ensures answered { result ≢ Ok Status.NoMemory →
-        Replies (PlanAnswers tokens.entry.text (map state shelf.old.items) plan tokens.entry.left tokens.entry.end)
+    ensures answered { Replies (Script tokens.entry.text (map state shelf.old.items) plan tokens.entry.left tokens.entry.end)
         (K.written sink.old) (K.written sink.new) (K.faults sink.old) (K.faults sink.new)
         (map state shelf.old.items) (map state shelf.new.items) result }
-    ensures nothing { result ≡ Ok Status.NoMemory →
-        (sink.new ≡ sink.old) × (map state shelf.new.items ≡ map state shelf.old.items) }
+    ensures nothing { result ≡ Err Failure.Memory → sink.new ≡ sink.old }
 {
     let packed = compile(alloc, &plan);
     forget(plan);
-    let Ok(image) = packed else {
-        return Ok(Status::NoMemory);
-    };
-    run_image(alloc, image, tokens, sink, shelf)
+    run_image(alloc, packed?, tokens, sink, shelf)
 }
 
 /// Answers the tree of a data part and what stands behind it.
@@ -127,16 +114,14 @@ fn run_tree<K: Sink>(
     tokens: Tokens<'_>,
     sink: &mut K,
     shelf: &mut Vec<Box<dyn Trackside>>,
-) -> Result<Status, Failed>
+) -> Result<Status, Failure>
     requires short { length tokens.text ≤ input_limit }
     requires spelled { IsSpelledIn tokens.text tree }
     requires full { length (map state shelf.old.items) ≡ 189 }
-    ensures answered { result ≢ Ok Status.NoMemory →
-        Replies (TreeAnswers tokens.entry.text (map state shelf.old.items) tree tokens.entry.left tokens.entry.end)
-        (K.written sink.old) (K.written sink.new) (K.faults sink.old) (K.faults sink.new)
-        (map state shelf.old.items) (map state shelf.new.items) result }
-    ensures nothing { result ≡ Ok Status.NoMemory →
-        (sink.new ≡ sink.old) × (map state shelf.new.items ≡ map state shelf.old.items) }
+    ensures answered { let input = tokens.entry.text in let states = map state shelf.old.items in
+        Replies (Named input states (Script input states) tree tokens.entry.left tokens.entry.end)
+        (K.written sink.old) (K.written sink.new) (K.faults sink.old) (K.faults sink.new) states (map state shelf.new.items) result }
+    ensures nothing { result ≡ Err Failure.Memory → sink.new ≡ sink.old }
 {
     let input = tokens.text();
     let resolved = resolve(alloc, input, &tree);
@@ -147,7 +132,7 @@ fn run_tree<K: Sink>(
             let written = write_name_faults(sink, input, faults.items.as_slice());
             told(written, Status::Faulty)
         }
-        Err(ResolveFault::Memory) => Ok(Status::NoMemory),
+        Err(ResolveFault::Memory) => Err(Failure::Memory),
     }
 }
 
@@ -157,14 +142,13 @@ pub fn run_input<K: Sink>(
     input: &[u8],
     sink: &mut K,
     shelf: &mut Vec<Box<dyn Trackside>>,
-) -> Result<Status, Failed>
+) -> Result<Status, Failure>
     requires short { length input.now ≤ input_limit }
     requires full { length (map state shelf.old.items) ≡ 189 }
-    ensures answered { result ≢ Ok Status.NoMemory → Replies (InputAnswers input.now (map state shelf.old.items))
+    ensures answered { Replies (RunsText input.now (map state shelf.old.items))
         (K.written sink.old) (K.written sink.new) (K.faults sink.old) (K.faults sink.new)
         (map state shelf.old.items) (map state shelf.new.items) result }
-    ensures nothing { result ≡ Ok Status.NoMemory →
-        (sink.new ≡ sink.old) × (map state shelf.new.items ≡ map state shelf.old.items) }
+    ensures nothing { result ≡ Err Failure.Memory → sink.new ≡ sink.old }
 {
     let mut tokens = Tokens::new(input, 0);
     match read_source(alloc, &mut tokens) {
@@ -172,6 +156,6 @@ pub fn run_input<K: Sink>(
         Err(ReadFault::Lex(fault)) => told(write_lexical_fault(sink, fault), Status::Faulty),
         Err(ReadFault::Syntax(place)) => told(write_syntax_fault(sink, place), Status::Faulty),
         Err(ReadFault::TooDeep(place)) => told(write_depth_fault(sink, place), Status::Faulty),
-        Err(ReadFault::Memory) => Ok(Status::NoMemory),
+        Err(ReadFault::Memory) => Err(Failure::Memory),
     }
 }

@@ -33,7 +33,7 @@ mod words;
 use crate::command_line::command_words;
 use crate::output::end_output;
 use crate::program::ssi_program;
-use crate::status::Status;
+use crate::status::Failure;
 use ssi_base::{StdSink, StdSource};
 use ssi_trackside::{PointsModule, SignalModule, TrackModule, Trackside, is_shelf};
 use std::io::{self, BufWriter};
@@ -41,7 +41,7 @@ use std::process::ExitCode;
 
 fn main(rt: HostRuntime) -> ExitCode {
     let alloc = rt.alloc();
-    let no_memory = ExitCode::from(Status::NoMemory.number());
+    let no_memory = ExitCode::from(Failure::Memory.number());
     let Ok(words) = command_words(&rt, alloc) else {
         return no_memory;
     };

@@ -4,9 +4,9 @@ ghost use Rattle.std.specs.Prelude.{◌≡◌, ◌≢◌, ◌⊎◌, ℕ, List, 
 ghost use Rattle.std.specs.Io.Buffered.{writer_buffer, writer_contents, writer_inner};
 ghost use Rattle.std.specs.Io.KnownBytes.{Keeps, append_known};
 ghost use Rattle.ssi_base.specs.Faults.{Rose, unbounded};
-ghost use Rattle.ssi_run.specs.Statuses.{statuses};
+ghost use Rattle.ssi_run.specs.Statuses.{failure_number};
 
-use crate::status::Status;
+use crate::status::Failure;
 use ssi_base::{Failed, StdSink};
 use std::io::{BufWriter, Write};
 
@@ -15,9 +15,9 @@ use std::io::{BufWriter, Write};
 /// What is still held back goes out now. Where writing has failed before, or fails now, nothing
 /// more goes out: the rest is given up, and the status is that of a failed sink.
 pub fn end_output<W: Write + Drop>(mut sink: StdSink<BufWriter<W>>, status: u8) -> (W, u8)
-    ensures given_up { status ≡ statuses.sink_fault →
-        (result.0 ≡ writer_inner sink.inner) × (result.1 ≡ statuses.sink_fault) }
-    ensures whole { result.1 ≢ statuses.sink_fault →
+    ensures given_up { status ≡ failure_number Failure.Sink →
+        (result.0 ≡ writer_inner sink.inner) × (result.1 ≡ failure_number Failure.Sink) }
+    ensures whole { result.1 ≢ failure_number Failure.Sink →
         (result.1 ≡ status) × Keeps (writer_contents W.contents sink.inner) (W.contents result.0) }
 
     // What the writer has and what is given up are together what writer and buffer had.
@@ -32,17 +32,17 @@ pub fn end_output<W: Write + Drop>(mut sink: StdSink<BufWriter<W>>, status: u8) 
 
 /// Passes on what the output still holds back, unless writing has failed, and answers the status.
 fn pass_on<W: Write + Drop>(sink: &mut StdSink<BufWriter<W>>, status: u8) -> u8
-    ensures given_up { status ≡ statuses.sink_fault → (sink.new ≡ sink.old) × (result ≡ statuses.sink_fault) }
-    ensures whole { result ≢ statuses.sink_fault → (result ≡ status) × (writer_buffer sink.new.inner ≡ []) }
+    ensures given_up { status ≡ failure_number Failure.Sink → (sink.new ≡ sink.old) × (result ≡ failure_number Failure.Sink) }
+    ensures whole { result ≢ failure_number Failure.Sink → (result ≡ status) × (writer_buffer sink.new.inner ≡ []) }
     ensures bytes { Keeps (writer_contents W.contents sink.old.inner)
         (writer_contents W.contents sink.new.inner) }
 
     // The status is that of a failed sink exactly where it was, or where the flush failed.
-    ensures cause { result ≡ statuses.sink_fault → (status ≡ statuses.sink_fault)
+    ensures cause { result ≡ failure_number Failure.Sink → (status ≡ failure_number Failure.Sink)
         ⊎ Rose (unbounded sink.old.failed) (unbounded sink.new.failed) }
-    ensures no_failure { result ≢ statuses.sink_fault → sink.new.failed ≡ sink.old.failed }
+    ensures no_failure { result ≢ failure_number Failure.Sink → sink.new.failed ≡ sink.old.failed }
 {
-    let failed = Status::SinkFault.number();
+    let failed = Failure::Sink.number();
     if status == failed {
         return failed;
     }

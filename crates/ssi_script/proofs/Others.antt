@@ -15,8 +15,8 @@ use Rattle.ssi_script.specs.declared.step.ScriptStep.{ScriptStep}
 use Rattle.ssi_script.specs.declared.step.ScriptStep.TheVariants.{Panel, Cycle, Happen, Raw, Lose, Drop}
 use Rattle.ssi_script.specs.Meanings.{IsStepOf}
 use Rattle.ssi_script.specs.OthersStay.{HasModule, OthersStay}
-use Rattle.ssi_script.specs.Sessions.{Session, session_of, exchange_with, after_cycle, after_cycles, after_step}
-use Rattle.ssi_script.specs.Traces.{Piece, cycle_pieces, one_piece, step_pieces, steps_pieces}
+use Rattle.ssi_script.specs.Sessions.{Session, session_of, exchange_with, after_cycle, after_cycles, after_step, after_steps}
+use Rattle.ssi_script.specs.Traces.{ShelfPiece, cycle_pieces, one_piece, step_pieces, steps_pieces}
 
 module _ (plan : Plan) (well : IsWell plan) where
   -- ---- places
@@ -101,8 +101,8 @@ module _ (plan : Plan) (well : IsWell plan) where
 
     -- ---- pieces
 
-    abbrev StaysIn : Piece → Type 0
-    StaysIn piece = OthersStay plan before piece.shelf
+    abbrev StaysIn : ShelfPiece → Type 0
+    StaysIn piece = OthersStay plan before piece.standing
 
     in_cycles : (count : ℕ) (session : Session) → IsKept session → All StaysIn (cycle_pieces count session)
     in_cycles zero session kept = All-nil StaysIn
@@ -129,5 +129,16 @@ module _ (plan : Plan) (well : IsWell plan) where
         All-append StaysIn (step_pieces step session) _ (in_step step session now kept)
         (in_steps steps (after_step step session) (All-tail (IsStepOf plan) step steps can) next)
 
+    after_all : (steps : List ScriptStep) (session : Session) → All (IsStepOf plan) steps → IsKept session → IsKept (after_steps steps session)
+    after_all [] session can kept = kept
+    after_all (step ∷ steps) session can kept =
+        after_all steps (after_step step session) (All-tail (IsStepOf plan) step steps can) (step_kept step session (All-head (IsStepOf plan) step steps can) kept)
+
+    start_kept : IsKept (session_of plan before)
+    start_kept = record { plan_is = refl; stay = record { as_many = refl; others = λ _ _ _ _ _ _. refl } }
+
+    pub after_session : (steps : List ScriptStep) → All (IsStepOf plan) steps → OthersStay plan before (after_steps steps (session_of plan before)).shelf
+    after_session steps can = (after_all steps (session_of plan before) can start_kept).stay
+
     pub in_session : (steps : List ScriptStep) → All (IsStepOf plan) steps → All StaysIn (steps_pieces steps (session_of plan before))
-    in_session steps can = in_steps steps (session_of plan before) can (record { plan_is = refl; stay = record { as_many = refl; others = λ _ _ _ _ _ _. refl } })
+    in_session steps can = in_steps steps (session_of plan before) can start_kept

@@ -1,5 +1,5 @@
 -- A session of an interlocking with its modules, and what steps of a script make of it.
-use Rattle.std.specs.Prelude.{ℕ, zero, suc, ◌+◌, List, replicate, slice_index_or, slice_set, Option, Some, None}
+use Rattle.std.specs.Prelude.{ℕ, zero, suc, ◌+◌, List, [], ◌∷◌, replicate, slice_index_or, slice_set, Option, Some, None}
 use Rattle.ssi_identities.specs.DataSets.{Plan, ModulePlan}
 use Rattle.ssi_cycle.specs.Cores.{Core, core_of, after_event_on}
 use Rattle.ssi_cycle.specs.Exchanges.{module_in}
@@ -91,3 +91,8 @@ after_step (Happen address kind event) session = happened session address kind e
 after_step (Raw address bytes) session = marked session address (mark.Raw bytes)
 after_step (Lose address) session = marked session address mark.Lose
 after_step (Drop address) session = marked session address mark.Drop
+
+-- after steps, one after another
+abbrev pub after_steps : List ScriptStep → Session → Session
+after_steps [] session = session
+after_steps (step ∷ steps) session = after_steps steps (after_step step session)

@@ -18,29 +18,33 @@ cycle_text session =
 abbrev pub put_text : ℕ → ℕ → Session → List ℕ
 put_text panel request session = if is_full session.core.world.waiting then full_line session.core.plan panel request else []
 
--- a piece of what is written, and the modules as they stand when it is written: what gives it has been done before
-pub record Piece : Type 0 where
+-- a piece of what is written, and what stands when it is written: what gives the piece has been done before
+pub record Piece (S : Type 0) : Type 0 where
   pub text : List ℕ
-  pub shelf : List ModuleState
+  pub standing : S
+
+-- a piece with the modules as they stand when it is written
+abbrev pub ShelfPiece : Type 0
+ShelfPiece = Piece (List ModuleState)
 
 -- the text of pieces, one after another
-abbrev pub text_of : List Piece → List ℕ
+abbrev pub text_of : {S : Type 0} → List (Piece S) → List ℕ
 text_of [] = []
 text_of (piece ∷ pieces) = piece.text ++ text_of pieces
 
 -- the pieces of minor cycles: each has its line
-abbrev pub cycle_pieces : ℕ → Session → List Piece
+abbrev pub cycle_pieces : ℕ → Session → List ShelfPiece
 cycle_pieces zero session = []
 cycle_pieces (suc count) session =
     let next = after_cycle session in
-    record { text = cycle_text session; shelf = next.shelf } ∷ cycle_pieces count next
+    record { text = cycle_text session; standing = next.shelf } ∷ cycle_pieces count next
 
 -- a step that isn't minor cycles is one piece
-abbrev pub one_piece : List ℕ → Session → List Piece
-one_piece text session = record { text = text; shelf = session.shelf } ∷ []
+abbrev pub one_piece : List ℕ → Session → List ShelfPiece
+one_piece text session = record { text = text; standing = session.shelf } ∷ []
 
 -- the pieces of a step
-abbrev pub step_pieces : ScriptStep → Session → List Piece
+abbrev pub step_pieces : ScriptStep → Session → List ShelfPiece
 step_pieces (Panel panel request) session = one_piece (put_text panel request session) session
 step_pieces (Cycle count) session = cycle_pieces count session
 step_pieces (Happen address kind event) session = one_piece [] (after_step (Happen address kind event) session)
@@ -49,6 +53,6 @@ step_pieces (Lose address) session = one_piece [] session
 step_pieces (Drop address) session = one_piece [] session
 
 -- the pieces of steps, one after another
-abbrev pub steps_pieces : List ScriptStep → Session → List Piece
+abbrev pub steps_pieces : List ScriptStep → Session → List ShelfPiece
 steps_pieces [] session = []
 steps_pieces (step ∷ steps) session = step_pieces step session ++ steps_pieces steps (after_step step session)

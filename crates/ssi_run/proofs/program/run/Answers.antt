@@ -1,24 +1,21 @@
-use Rattle.std.proofs.Common.{ap, ◌∙◌, Err}
-use Rattle.ssi_run.specs.declared.status.Status.TheVariants.{SourceFault, PastLimit}
-use Rattle.ssi_run.proofs.Answering.{answered_large, not_told, only_memory, ran_input}
+use Rattle.std.proofs.Common.{Err, ap, inl, inr, refl, ◌∙◌}
+use Rattle.ssi_run.proofs.Ending.{ended_input, ended_large, ended_starved, ended_unread}
 use Rattle.ssi_run.proofs.program.run.Goals as goal
 
-pub returns-in-Ok-clause-answered : goal.returns-in-Ok-clause-answered
-returns-in-Ok-clause-answered g c =
-    let answered = rw c.as_slice.ensures.value at c.run_input.ensures.answered in
-    let ran = ran_input _ (g.S.Source.left c.read_all.new.source) _ _ _ _ _ _ c.in-Ok.input.items c.in-Ok.ensures.ok.within c.in-Ok.ensures.ok c.run_input.result answered in
-    ran.answered
+pub returns-in-Ok-clause-ended : goal.returns-in-Ok-clause-ended
+returns-in-Ok-clause-ended g c = ended_input _ c.in-Ok.input.items c.in-Ok.ensures.ok c.run_input.result (rw c.as_slice.ensures.value at c.run_input.ensures.answered)
 
-pub returns-in-Ok-clause-nothing : goal.returns-in-Ok-clause-nothing
-returns-in-Ok-clause-nothing g c = only_memory c.run_input.result c.run_input.ensures.answered c.run_input.ensures.nothing
-
-pub returns-in-Ok-clause-past_limit : goal.returns-in-Ok-clause-past_limit
-returns-in-Ok-clause-past_limit g c = λ e. absurd (not_told c.run_input.result c.run_input.ensures.answered PastLimit (λ h. cc) (λ h. cc) (λ h. cc) (λ h. cc) e)
-
-pub returns-in-Ok-clause-source_fault : goal.returns-in-Ok-clause-source_fault
-returns-in-Ok-clause-source_fault g c = λ e. absurd (not_told c.run_input.result c.run_input.ensures.answered SourceFault (λ h. cc) (λ h. cc) (λ h. cc) (λ h. cc) e)
-
-pub returns-in-Err-TooLarge-clause-answered : goal.returns-in-Err-TooLarge-clause-answered
-returns-in-Err-TooLarge-clause-answered g c = λ memory source.
+pub returns-in-Err-TooLarge-clause-ended : goal.returns-in-Err-TooLarge-clause-ended
+returns-in-Err-TooLarge-clause-ended g c =
     let past = c.read_all.ensures.too_large (c.in-Err-TooLarge.is ∙ ap Err c.in-Err-TooLarge.field-0-is) in
-    rw c.told.ensures (answered_large _ (g.S.Source.left c.read_all.new.source) _ past c.write_all.result c.write_all.ensures.written)
+    rw c.told.ensures (ended_large _ past c.write_all.result c.write_all.ensures.written refl)
+
+pub returns-in-Err-Fault-clause-ended : goal.returns-in-Err-Fault-clause-ended
+returns-in-Err-Fault-clause-ended g c =
+    let is = c.in-Err-Fault.is ∙ ap Err c.in-Err-Fault.field-0-is in
+    ended_unread _ (c.read_all.ensures.fault is) (c.read_all.ensures.within (inl is)) refl refl
+
+pub returns-in-Err-Memory-clause-ended : goal.returns-in-Err-Memory-clause-ended
+returns-in-Err-Memory-clause-ended g c =
+    let is = c.in-Err-Memory.is ∙ ap Err c.in-Err-Memory.field-0-is in
+    ended_starved _ (c.read_all.ensures.within (inr is)) refl refl
