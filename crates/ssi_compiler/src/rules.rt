@@ -1,9 +1,9 @@
 //! The rules of a data set, row by row: the conditions and bodies that have code.
 
-ghost use Rattle.std.specs.Prelude.{◌≡◌, ℕ, List, ◌++◌, map, All, IfOk, OnOk};
+ghost use Rattle.std.specs.Prelude.{◌≡◌, ℕ, List, ◌++◌, map, All, IfOk, IfSome, OnOk};
 ghost use Rattle.std.specs.List.{flat_map};
 ghost use Rattle.ssi_identities.specs.Allowed.{IsWellBody};
-ghost use Rattle.ssi_identities.specs.Wells.{IsWell, IsWellModule, IsWellPoints, IsWellStatement, scope_of_decisions};
+ghost use Rattle.ssi_identities.specs.Wells.{AreWellOutputs, HasWellMoves, IsWell, IsWellStatement, scope_of_conds, scope_of_decisions, scope_of_inputs, scope_of_moves};
 ghost use Rattle.ssi_image.specs.Packed as spec;
 ghost use Rattle.ssi_image.specs.Packed.{pieces_of as pieces_of_plan};
 ghost use Rattle.ssi_compiler.specs.Rows.{IsWellInSome};
@@ -49,7 +49,7 @@ impl Rules for Moves {
 
     ghost pieces_of = { spec.move_pieces };
 
-    ghost is_well = { IsWellInSome IsWellPoints };
+    ghost is_well = { IsWellInSome (λ plan. HasWellMoves (scope_of_moves plan)) };
 
     fn add_row(pieces: &mut Pieces, row: &PointsRow) -> Result<(), OutOfMemory> {
         pieces.add_if(&row.free_normal)?;
@@ -80,7 +80,7 @@ impl Rules for Statements {
 
     ghost pieces_of = { spec.statement_pieces };
 
-    ghost is_well = { IsWellInSome IsWellStatement };
+    ghost is_well = { IsWellInSome (λ plan. IsWellStatement (scope_of_decisions plan)) };
 
     fn add_row(pieces: &mut Pieces, row: &Stmt) -> Result<(), OutOfMemory> {
         pieces.add(&row.guard)?;
@@ -96,7 +96,7 @@ impl Rules for Outputs {
 
     ghost pieces_of = { spec.output_pieces };
 
-    ghost is_well = { IsWellInSome IsWellModule };
+    ghost is_well = { IsWellInSome (λ plan row. AreWellOutputs (scope_of_conds plan 0) row.outputs) };
 
     fn add_row(pieces: &mut Pieces, row: &ModuleRow) -> Result<(), OutOfMemory> {
         for output in &row.outputs {
@@ -114,7 +114,7 @@ impl Rules for Inputs {
 
     ghost pieces_of = { spec.input_pieces };
 
-    ghost is_well = { IsWellInSome IsWellModule };
+    ghost is_well = { IsWellInSome (λ plan row. IfSome row.input (IsWellBody (scope_of_inputs plan))) };
 
     fn add_row(pieces: &mut Pieces, row: &ModuleRow) -> Result<(), OutOfMemory> {
         pieces.add_if(&row.input)

@@ -11,12 +11,12 @@ use Rattle.ssi_identities.specs.declared.rule.Body.{Body}
 use Rattle.ssi_identities.specs.declared.rule.BodyItem.TheVariants.{If}
 use Rattle.ssi_identities.specs.Allowed.{CondScope, BodyScope, IsWellCond, IsWellBody, body_of_commands, is_decided, is_reported, is_fact_of, is_number_of}
 use Rattle.ssi_identities.specs.Codes.{code_of_body, code_of_cond}
-use Rattle.ssi_identities.specs.DataSets.{Plan, StmtPlan, counts_of}
+use Rattle.ssi_identities.specs.DataSets.{ModulePlan, Plan, StmtPlan, counts_of}
 use Rattle.ssi_identities.specs.Facts.{Fact, fact_count_of, facts_of}
 use Rattle.ssi_identities.specs.States.{State}
 use Rattle.ssi_identities.specs.Steps.{effect_of, item_effect_of}
 use Rattle.ssi_identities.specs.Values.{value_of}
-use Rattle.ssi_identities.specs.Wells.{IsWell, IsWellModule, IsWellStatement, scope_of_conds, scope_of_decisions, scope_of_inputs, scope_of_moves}
+use Rattle.ssi_identities.specs.Wells.{AreWellOutputs, IsWell, IsWellStatement, scope_of_conds, scope_of_decisions, scope_of_inputs, scope_of_moves}
 use Rattle.ssi_identities.proofs.FactOrder.{all_facts}
 use Rattle.ssi_identities.proofs.Laws.{effect_of_if, effect_of_items, effect_of_none}
 use Rattle.ssi_image.specs.declared.places.BodyAt.{BodyAt}
@@ -59,7 +59,7 @@ cond_there plan (Output number bit) cond code well there is = record {
   well = option_and_then_some (λ row. option_and_then (λ output. output) (slice_get row.outputs bit)) (slice_get plan.modules number) cond there
       (λ row found at. option_and_then_some (λ output. output) (slice_get row.outputs bit) cond at
       (λ output inner same. subst (λ (o : Option Cond). IfSome o (IsWellCond (scope_of_conds plan 0))) same
-      (all_at (λ o. IfSome o (IsWellCond (scope_of_conds plan 0))) row.outputs bit output (all_at (IsWellModule plan) plan.modules number row well.modules found).outputs inner)));
+      (all_at (λ o. IfSome o (IsWellCond (scope_of_conds plan 0))) row.outputs bit output (all_at (λ (r : ModulePlan). AreWellOutputs (scope_of_conds plan 0) r.outputs) plan.modules number row well.rules.outputs found).each inner)));
   is = is;
 }
 cond_there plan (Free points lie) cond code well there is = record { scope_in = moves_scope plan; well = move_is_well plan points lie cond well there; is = is }
@@ -96,13 +96,14 @@ request_there plan place n code well at shown = record { scope = scope_of_decisi
         let same : row.body ≡ body = cc in
         let two : Some code ≡ Some (code_of_body row.body) = shown ∙ ap (option_map (λ (r : RequestRow). code_of_body r.body)) found in
         let is : code ≡ code_of_body row.body = cc in
-        subst (λ (b : Body). IsBodyCode plan (scope_of_decisions plan) b code) same (record { scope_in = decisions_in plan; well = all_at (λ r. IsWellBody (scope_of_decisions plan) r.body) plan.requests n row well.requests found; is = is })
+        subst (λ (b : Body). IsBodyCode plan (scope_of_decisions plan) b code) same (record { scope_in = decisions_in plan; well = all_at (λ r. IsWellBody (scope_of_decisions plan) r.body) plan.requests n row well.rules.requests found; is = is })
 
 -- the input of a module is well
 input_well : (plan : Plan) (number : ℕ) (body : Body) → IsWell plan → input_of plan number ≡ Some body → IsWellBody (scope_of_inputs plan) body
 input_well plan number body well there =
     option_and_then_some (λ row. row.input) (slice_get plan.modules number) body there
-    (λ row found input. subst (λ (o : Option Body). IfSome o (IsWellBody (scope_of_inputs plan))) input (all_at (IsWellModule plan) plan.modules number row well.modules found).input)
+    (λ row found input. subst (λ (o : Option Body). IfSome o (IsWellBody (scope_of_inputs plan))) input
+    (all_at (λ (r : ModulePlan). IfSome r.input (IsWellBody (scope_of_inputs plan))) plan.modules number row well.rules.inputs found))
 
 -- the input of a module
 pub input_there : (plan : Plan) (place : BodyAt) (number : ℕ) (code : List ℕ) → IsWell plan → place ≡ Input number → Some code ≡ option_map code_of_body (input_of plan number) → BodyThere plan place code
@@ -127,7 +128,7 @@ statement_there plan place n both well at shown = by_row (slice_get plan.stateme
     by_row : (row : Option StmtPlan) → slice_get plan.statements n ≡ row → IsStatementCode (Some both) row → StatementThere plan place both.0.now both.1.now
     by_row None none codes = absurd codes
     by_row (Some row) found codes =
-        let fine = all_at (IsWellStatement plan) plan.statements n row well.statements found in
+        let fine = all_at (IsWellStatement (scope_of_decisions plan)) plan.statements n row well.rules.statements found in
         record {
           row = row;
           body_is = ap (body_at plan) at ∙ ap (option_map body_of_statement) found;

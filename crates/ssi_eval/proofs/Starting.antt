@@ -12,7 +12,7 @@ use Rattle.ssi_identities.specs.DataSets.{Plan, PointsPlan, counts_of}
 use Rattle.ssi_identities.specs.Facts.{fact_count_of}
 use Rattle.ssi_identities.specs.States.{IsStateOf, State}
 use Rattle.ssi_identities.specs.Values.{Scene, bit_of, is_free, holds_in, item_holds, may_move, move_condition_of, move_scene, scene_of}
-use Rattle.ssi_identities.specs.Wells.{IsWell, IsWellPoints, scope_of_conds, scope_of_moves}
+use Rattle.ssi_identities.specs.Wells.{HasWellMoves, IsWell, scope_of_conds, scope_of_moves}
 use Rattle.ssi_identities.proofs.Values.{all_hold}
 use Rattle.ssi_eval.specs.declared.frame.Frame.{Frame}
 use Rattle.ssi_eval.specs.CondCodes.{IsScopeIn, IsCondCode, reading_of}
@@ -52,7 +52,7 @@ same_stack old new is = sym (reverse-reverse new) ∙ ap reverse is ∙ reverse-
 -- a well data set has fewer facts than two bytes number
 pub few_facts : (plan : Plan) → IsWell plan → fact_count_of (counts_of plan) < 2 ^ 16
 few_facts plan well =
-    let l = well.limits in
+    let l = well.size.limits in
     let points = l.points in
     let signals = l.signals in
     let tracks = l.tracks in
@@ -78,9 +78,9 @@ all_at P xs n x all there = subst P (get_or_from_slice_get xs n x x there) (All-
 -- the condition of points is well
 pub move_is_well : (plan : Plan) (points : ℕ) (lie : Bool) (cond : Cond) → IsWell plan → move_condition_of plan points lie ≡ Some cond → IsWellCond (scope_of_moves plan) cond
 move_is_well plan points lie cond well is =
-    option_and_then_some (λ row. if lie then row.free_reverse else row.free_normal) (slice_get plan.points points) cond is (λ row there at. of_row row lie (all_at (IsWellPoints plan) plan.points points row well.points there) at)
+    option_and_then_some (λ row. if lie then row.free_reverse else row.free_normal) (slice_get plan.points points) cond is (λ row there at. of_row row lie (all_at (HasWellMoves (scope_of_moves plan)) plan.points points row well.rules.moves there) at)
   where
-    of_row : (row : PointsPlan) (reverse : Bool) → IsWellPoints plan row → (if reverse then row.free_reverse else row.free_normal) ≡ Some cond → IsWellCond (scope_of_moves plan) cond
+    of_row : (row : PointsPlan) (reverse : Bool) → HasWellMoves (scope_of_moves plan) row → (if reverse then row.free_reverse else row.free_normal) ≡ Some cond → IsWellCond (scope_of_moves plan) cond
     of_row row true fine there = subst (λ (move : Option Cond). IfSome move (IsWellCond (scope_of_moves plan))) there fine.free_reverse
     of_row row false fine there = subst (λ (move : Option Cond). IfSome move (IsWellCond (scope_of_moves plan))) there fine.free_normal
 
@@ -101,8 +101,8 @@ looks plan scope free state report well whole scope_in =
       bits_are = refl;
       facts = omega (arith, whole.facts, scope_in.facts);
       bits = scope_in.bits;
-      points = λ points lie asked. omega (arith, scope_in.points points lie asked, well.limits.points);
-      few = omega (arith, whole.facts, few);
+       points = λ points lie asked. omega (arith, scope_in.points points lie asked, well.size.limits.points);
+       few = omega (arith, whole.facts, few);
     }
 
 -- where there is code of the own condition of points, the reading of that condition goes on from there: it gives whether they may be moved, and asks nothing

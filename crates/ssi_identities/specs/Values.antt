@@ -5,7 +5,7 @@ use Rattle.ssi_identities.specs.declared.fact.FactKind.TheVariants.{Reverse}
 use Rattle.ssi_identities.specs.declared.rule.CondItem.{CondItem, fold-CondItem}
 use Rattle.ssi_identities.specs.declared.rule.CondItem.TheOpen.{CondItem-F, Cond-F}
 use Rattle.ssi_identities.specs.declared.rule.Cond.{Cond, fold-Cond}
-use Rattle.ssi_identities.specs.DataSets.{Plan, counts_of}
+use Rattle.ssi_identities.specs.DataSets.{PointsPlan, Plan, counts_of}
 use Rattle.ssi_identities.specs.Facts.{fact_number_of}
 use Rattle.ssi_identities.specs.States.{State, truth_of}
 
@@ -50,9 +50,13 @@ cond_of items = record { items = items }
 abbrev pub is_controlled : Plan → State → ℕ → Bool → Bool
 is_controlled plan state points reverse = is_as_wanted (truth_of state (fact_number_of (counts_of plan) Reverse points)) reverse
 
+-- the own condition of one of these points for a move to a lie
+abbrev pub move_condition_in : List PointsPlan → ℕ → Bool → Option Cond
+move_condition_in points number reverse = option_and_then (λ row. if reverse then row.free_reverse else row.free_normal) (slice_get points number)
+
 -- the points' own condition for a move to a lie
 abbrev pub move_condition_of : Plan → ℕ → Bool → Option Cond
-move_condition_of plan points reverse = option_and_then (λ row. if reverse then row.free_reverse else row.free_normal) (slice_get plan.points points)
+move_condition_of plan = move_condition_in plan.points
 
 -- what the points' own conditions look at: they don't ask in turn which points are free
 abbrev pub move_scene : State → ℕ → Scene

@@ -3,7 +3,8 @@
 ghost use Rattle.std.specs.Prelude.{◌≡◌, ◌↔◌, IfSome, IsTrue, nat_le, length, is_some};
 ghost use Rattle.ssi_identities.specs.Allowed.{IsWellCond, cond_depth, is_item_within, is_within, item_depth};
 ghost use Rattle.ssi_identities.specs.Codes.{code_of_cond, code_of_item};
-ghost use Rattle.ssi_identities.specs.Deciding.{capped, condition_in, cond_scope_of};
+ghost use Rattle.ssi_identities.specs.Deciding.{capped, cond_scope_of};
+ghost use Rattle.ssi_identities.specs.Values.{move_condition_in};
 
 use crate::data_set::PointsRow;
 use crate::place::CondPlace;
@@ -34,7 +35,7 @@ pub fn is_well_where_given(place: &CondPlace, cond: &Option<Cond>) -> bool
 
 /// Whether points have a condition for a lie.
 fn may_ask(points: &[PointsRow], number: u16, reverse: bool) -> bool
-    ensures { result ≡ is_some (condition_in points.now number reverse) }
+    ensures { result ≡ is_some (move_condition_in points.now number reverse) }
 {
     match points.get(usize::from(number)) {
         Some(row) if reverse => row.free_reverse.is_some(),

@@ -2,41 +2,30 @@
 
 ghost use Rattle.std.specs.Prelude.{◌≡◌, ◌↔◌, ℕ, ◌<◌, ◌≤◌, ◌==◌, if◌then◌else◌, [], length, map, All, IfSome, IsTrue};
 ghost use Rattle.std.specs.List.{IsDistinct, count_by};
-ghost use Rattle.ssi_identities.specs.Allowed.{IsWellCond};
-ghost use Rattle.ssi_identities.specs.DataSets.{counts_of, names_in};
-ghost use Rattle.ssi_identities.specs.Deciding.{capped, cond_scope_of};
-ghost use Rattle.ssi_identities.specs.Facts.{IsWithinLimits};
+ghost use Rattle.ssi_identities.specs.DataSets.{names_in};
+ghost use Rattle.ssi_identities.specs.Deciding.{capped};
 ghost use Rattle.ssi_identities.specs.Wells.{IsWellModule, IsWiredOnce, is_wired_to, pin_count, pins_of_kind, wired_kind};
 
 use crate::data_set::{DataSet, ModuleRow};
-use crate::place::CondPlace;
-use crate::rule::Cond;
-use crate::well_bodies::is_well_body_where_given;
-use crate::well_conditions::is_well_where_given;
 use crate::well_numbers::do_numbers_differ;
-use crate::well_places::{cond_place, input_place};
 
 /// Whether each module is well.
 pub fn are_well_modules(plan: &DataSet) -> bool
-    requires { IsWithinLimits (counts_of plan.now) }
     ensures { IsTrue result ↔ All (IsWellModule plan.now) plan.now.modules }
 {
     plan.modules.iter().all(|row| is_well_module(plan, row))
 }
 
 fn is_well_module(plan: &DataSet, row: &ModuleRow) -> bool
-    requires { IsWithinLimits (counts_of plan.now) }
     ensures { IsTrue result ↔ IsWellModule plan.now row.now }
 {
     if row.address == 0 || row.address > 63 || row.kind > 2 {
         return false;
     }
-    if row.pins.len() != pin_count(row.kind) || row.outputs.len() != 8 {
+    if row.pins.len() != pin_count(row.kind) {
         return false;
     }
     are_well_pins(row.pins.as_slice(), wired_count(plan, row.kind))
-        && are_well_outputs(&cond_place(plan, 0), row.outputs.as_slice())
-        && is_well_body_where_given(&input_place(plan), &row.input)
 }
 
 /// How many pins a module of this kind has.
@@ -71,14 +60,6 @@ fn is_well_pin(pin: &Option<u16>, count: usize) -> bool
         Some(identity) => usize::from(*identity) < count,
         None => true,
     }
-}
-
-fn are_well_outputs(place: &CondPlace, outputs: &[Option<Cond>]) -> bool
-    ensures { IsTrue result ↔ All (λ output. IfSome output (IsWellCond (cond_scope_of place.now))) outputs.now }
-{
-    outputs
-        .iter()
-        .all(|output| is_well_where_given(place, output))
 }
 
 /// Whether no two modules have one address.

@@ -5,9 +5,9 @@ ghost use Rattle.std.specs.List.{IsDistinct};
 ghost use Rattle.std.specs.Str.{bytes_eq};
 ghost use Rattle.ssi_identities.specs.DataSets.{Plan, counts_of, name_of, names_in};
 ghost use Rattle.ssi_identities.specs.declared.fact.Kind.{Kind};
-ghost use Rattle.ssi_identities.specs.Deciding.{HasWellNames};
 ghost use Rattle.ssi_identities.specs.Facts.{IsWithinLimits};
 ghost use Rattle.ssi_identities.specs.IdentityNames.{IsNameOf, is_name_character, letter_of};
+ghost use Rattle.ssi_identities.specs.Wells.{HasWellNames};
 
 use crate::data_set::DataSet;
 use crate::fact::{Counts, Kind};

@@ -51,8 +51,8 @@ fn has_number<T: Numbered>(rows: &[T], number: u16) -> bool
 }
 
 /// Whether each number is below the count.
-pub fn are_below(numbers: &[u16], count: usize) -> bool
+pub fn are_below(numbers: &[u16], count: u16) -> bool
     ensures { IsTrue result ↔ All (λ number. number < count) numbers.now }
 {
-    numbers.iter().all(|number| usize::from(*number) < count)
+    numbers.iter().all(|number| *number < count)
 }

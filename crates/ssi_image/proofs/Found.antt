@@ -48,7 +48,7 @@ none_at plan address (row ∷ rows) all past =
 -- no module has an address past the last
 pub place_past : (plan shown : Plan) (address : ℕ) → IsWell plan → plan ≡ shown → 64 ≤ address → None ≡ module_with shown address
 place_past plan shown address well same past =
-    let none = none_at plan address plan.modules well.modules past in
+    let none = none_at plan address plan.modules well.wiring.modules past in
     let nothing : position (has address) plan.modules ≡ None = grind (arith, nat_tests, common_steps) in
     sym nothing ∙ ap (λ (p : Plan). position (has address) p.modules) same
 
@@ -120,7 +120,7 @@ wire_is plan kind identity wire at =
 wire_found : (plan : Plan) (kind identity : ℕ) (table : List (ℕ × ℕ)) (wire : ℕ × ℕ) → IsWell plan → kind ≤ 2 → identity < length (names_in plan (wired_kind kind))
     → AreWires (map wiring_of plan.modules) kind table → slice_get table identity ≡ Some wire → IsWiredTo plan (wired_kind kind) identity wire.0 wire.1
 wire_found plan kind identity table wire well known within are read =
-    let once : count_by (is_wired_to identity) (pins_of_kind plan kind) ≡ 1 = well.wired kind known identity within in
+    let once : count_by (is_wired_to identity) (pins_of_kind plan kind) ≡ 1 = well.wiring.wired kind known identity within in
     let some = some_place kind identity plan.modules (omega arith) in
     wire_is plan kind identity wire (are identity some.0 wire read some.1)
 

@@ -22,13 +22,13 @@ each_short plan (row ∷ rows) all =
     All-cons (λ (row : Wiring). length row.pins ≤ 8) (wiring_of row) (map wiring_of rows) few (each_short plan rows (All-tail (IsWellModule plan) row rows all))
 
 pub addresses_small : (plan : Plan) (packed : Packed) → IsWell plan → packed ≡ packed_of plan → All (λ (row : Wiring). row.address < 64) packed.modules
-addresses_small plan packed well is = subst (λ (p : Packed). All (λ (row : Wiring). row.address < 64) p.modules) (sym is) (each_small plan plan.modules well.modules)
+addresses_small plan packed well is = subst (λ (p : Packed). All (λ (row : Wiring). row.address < 64) p.modules) (sym is) (each_small plan plan.modules well.wiring.modules)
 
 pub pins_few : (plan : Plan) (packed : Packed) → IsWell plan → packed ≡ packed_of plan → All (λ (row : Wiring). length row.pins ≤ 8) packed.modules
-pins_few plan packed well is = subst (λ (p : Packed). All (λ (row : Wiring). length row.pins ≤ 8) p.modules) (sym is) (each_short plan plan.modules well.modules)
+pins_few plan packed well is = subst (λ (p : Packed). All (λ (row : Wiring). length row.pins ≤ 8) p.modules) (sym is) (each_short plan plan.modules well.wiring.modules)
 
 pub modules_few : (plan : Plan) (packed : Packed) → IsWell plan → packed ≡ packed_of plan → length packed.modules ≤ 63
-modules_few plan packed well is = omega (arith, ap (λ (p : Packed). length p.modules) is, length-map plan.modules wiring_of, well.few_modules)
+modules_few plan packed well is = omega (arith, ap (λ (p : Packed). length p.modules) is, length-map plan.modules wiring_of, well.size.few_modules)
 
 -- so many points, signals and tracks as a layout has at most
 pub record AreFew (packed : Packed) : Type 0 where
@@ -37,4 +37,4 @@ pub record AreFew (packed : Packed) : Type 0 where
   pub tracks : length packed.tracks ≤ 504
 
 pub rows_few : (plan : Plan) (packed : Packed) → IsWell plan → packed ≡ packed_of plan → AreFew packed
-rows_few plan packed well is = subst AreFew (sym is) (record { points = omega (arith, length-map plan.points packed_points, well.limits.points); signals = well.limits.signals; tracks = well.limits.tracks })
+rows_few plan packed well is = subst AreFew (sym is) (record { points = omega (arith, length-map plan.points packed_points, well.size.limits.points); signals = well.size.limits.signals; tracks = well.size.limits.tracks })

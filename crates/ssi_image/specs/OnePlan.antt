@@ -19,7 +19,7 @@ use Rattle.ssi_identities.specs.Codes.{code_of_cond, code_of_body}
 use Rattle.ssi_identities.specs.DataSets.{PointsPlan, RoutePlan, SubPlan, StmtPlan, ModulePlan, Plan, counts_of}
 use Rattle.ssi_identities.specs.Facts.{Fact, IsWithinLimits, facts_of, fact_count_of}
 use Rattle.ssi_identities.specs.Values.{move_condition_of}
-use Rattle.ssi_identities.specs.Wells.{IsWell, IsWellPoints, IsWellStatement, IsWellModule, scope_of_moves, scope_of_conds, scope_of_decisions, scope_of_inputs}
+use Rattle.ssi_identities.specs.Wells.{AreWellOutputs, HasWellMoves, IsWell, IsWellStatement, scope_of_moves, scope_of_conds, scope_of_decisions, scope_of_inputs}
 use Rattle.ssi_identities.proofs.Bodies.{do_is}
 use Rattle.ssi_identities.proofs.FactOrder.{all_facts}
 use Rattle.ssi_image.specs.OneCode.{IsNumbered, IsNumberedBody, one_cond, one_body}
@@ -32,7 +32,7 @@ facts_few : (counts : Counts) → IsWithinLimits counts → fact_count_of counts
 facts_few counts w = omega (arith, w.points, w.signals, w.tracks, w.routes, w.subs, w.flags)
 
 moves_numbered : (plan : Plan) → IsWell plan → IsNumbered (scope_of_moves plan)
-moves_numbered plan well = record { facts = facts_few (counts_of plan) well.limits; points = λ points lie e. absurd cc }
+moves_numbered plan well = record { facts = facts_few (counts_of plan) well.size.limits; points = λ points lie e. absurd cc }
 
 row_there : (rows : List PointsPlan) (points : ℕ) (of_row : PointsPlan → Option Cond) → is_some (option_and_then of_row (slice_get rows points)) ≡ true → points < length rows
 row_there [] points of_row e = absurd cc
@@ -41,8 +41,8 @@ row_there (row ∷ rows) (suc points) of_row e = let below = row_there rows poin
 
 conds_numbered : (plan : Plan) (bits : ℕ) → IsWell plan → IsNumbered (scope_of_conds plan bits)
 conds_numbered plan bits well = record {
-  facts = facts_few (counts_of plan) well.limits;
-  points = λ points lie e. (let below = row_there plan.points points (λ row. if lie then row.free_reverse else row.free_normal) e in let few = well.limits.points in omega arith);
+  facts = facts_few (counts_of plan) well.size.limits;
+  points = λ points lie e. (let below = row_there plan.points points (λ row. if lie then row.free_reverse else row.free_normal) e in let few = well.size.limits.points in omega arith);
 }
 
 fact_there : (facts : List Fact) (n : ℕ) (is_kind : FactKind → Bool) → is_fact_of is_kind (slice_get facts n) ≡ true → n < length facts
@@ -54,7 +54,7 @@ command_small : (plan : Plan) (is_kind : FactKind → Bool) → IsWell plan → 
 command_small plan is_kind well fact e =
     let below = fact_there (facts_of (counts_of plan)) fact is_kind e in
     let count = all_facts (counts_of plan) in
-    let w = well.limits in
+    let w = well.size.limits in
     omega (arith, w.points, w.signals, w.tracks, w.routes, w.subs, w.flags)
 
 decisions_numbered : (plan : Plan) → IsWell plan → IsNumberedBody (scope_of_decisions plan)
@@ -116,8 +116,12 @@ points_of name tracks normal reverse = record { name = name; tracks = tracks; fr
 abbrev module_of : ℕ → ℕ → List (Option ℕ) → List (Option Cond) → Option Body → ModulePlan
 module_of address kind pins outputs input = record { address = address; kind = kind; pins = pins; outputs = outputs; input = input }
 
+-- the outputs and the input of a module are well
+abbrev HasWellBits : Plan → ModulePlan → Type 0
+HasWellBits plan row = AreWellOutputs (scope_of_conds plan 0) row.outputs × IfSome row.input (IsWellBody (scope_of_inputs plan))
+
 module _ (a b : Plan) (wa : IsWell a) (wb : IsWell b) where
-  same_points : (x y : PointsPlan) → IsWellPoints a x → IsWellPoints b y → packed_points x ≡ packed_points y → x ≡ y
+  same_points : (x y : PointsPlan) → HasWellMoves (scope_of_moves a) x → HasWellMoves (scope_of_moves b) y → packed_points x ≡ packed_points y → x ≡ y
   same_points x y p q e =
       let normal = same_cond (scope_of_moves a) (scope_of_moves b) (moves_numbered a wa) (moves_numbered b wb) x.free_normal y.free_normal p.free_normal q.free_normal (ap (λ (r : PackedPoints). r.free_normal) e) in
       let reverse = same_cond (scope_of_moves a) (scope_of_moves b) (moves_numbered a wa) (moves_numbered b wb) x.free_reverse y.free_reverse p.free_reverse q.free_reverse (ap (λ (r : PackedPoints). r.free_reverse) e) in
@@ -129,24 +133,24 @@ module _ (a b : Plan) (wa : IsWell a) (wb : IsWell b) where
       let body = one_body (scope_of_decisions a) (scope_of_decisions b) (decisions_numbered a wa) (decisions_numbered b wb) x.body y.body p.within q.within p.short (ap (λ (r : PackedRequest). r.body) e) in
       ap (λ (n : List ℕ). let row : RequestRow = record { name = n; body = x.body } in row) (ap (λ (r : PackedRequest). r.name) e) ∙ ap (λ (c : Body). let row : RequestRow = record { name = y.name; body = c } in row) body
 
-  same_statement : (x y : StmtPlan) → IsWellStatement a x → IsWellStatement b y → packed_statement x ≡ packed_statement y → x ≡ y
+  same_statement : (x y : StmtPlan) → IsWellStatement (scope_of_decisions a) x → IsWellStatement (scope_of_decisions b) y → packed_statement x ≡ packed_statement y → x ≡ y
   same_statement x y p q e =
       let guard = one_cond (scope_of_conds a 0) (scope_of_conds b 0) (conds_numbered a 0 wa) (conds_numbered b 0 wb) x.guard y.guard p.guard.within q.guard.within p.guard.short (ap (λ (r : PackedStatement). r.guard) e) in
       let body = one_body (scope_of_decisions a) (scope_of_decisions b) (decisions_numbered a wa) (decisions_numbered b wb) (body_of_commands x.commands) (body_of_commands y.commands) p.commands.within q.commands.within p.commands.short (ap (λ (r : PackedStatement). r.commands) e) in
       let commands = same_commands x.commands y.commands (ap (λ (c : Body). c.items) body) in
       ap (λ (cs : List Cmd). let row : StmtPlan = record { commands = cs; guard = x.guard } in row) commands ∙ ap (λ (c : Cond). let row : StmtPlan = record { commands = y.commands; guard = c } in row) guard
 
-  same_module : (x y : ModulePlan) → IsWellModule a x → IsWellModule b y → wiring_of x ≡ wiring_of y → packed_outputs x ≡ packed_outputs y → packed_input x ≡ packed_input y → x ≡ y
+  same_module : (x y : ModulePlan) → HasWellBits a x → HasWellBits b y → wiring_of x ≡ wiring_of y → packed_outputs x ≡ packed_outputs y → packed_input x ≡ packed_input y → x ≡ y
   same_module x y p q w o i =
       let outputs = same_rows (option_map code_of_cond) (λ c. IfSome c (IsWellCond (scope_of_conds a 0))) (λ c. IfSome c (IsWellCond (scope_of_conds b 0)))
-      (same_cond (scope_of_conds a 0) (scope_of_conds b 0) (conds_numbered a 0 wa) (conds_numbered b 0 wb)) x.outputs y.outputs p.outputs q.outputs o
+      (same_cond (scope_of_conds a 0) (scope_of_conds b 0) (conds_numbered a 0 wa) (conds_numbered b 0 wb)) x.outputs y.outputs p.0.each q.0.each o
       in
-      let input = same_body (scope_of_inputs a) (scope_of_inputs b) (inputs_numbered a wa) (inputs_numbered b wb) x.input y.input p.input q.input i in
+      let input = same_body (scope_of_inputs a) (scope_of_inputs b) (inputs_numbered a wa) (inputs_numbered b wb) x.input y.input p.1 q.1 i in
       ap (λ n. module_of n x.kind x.pins x.outputs x.input) (ap (λ (r : Wiring). r.address) w) ∙ ap (λ n. module_of y.address n x.pins x.outputs x.input) (ap (λ (r : Wiring). r.kind) w)
       ∙ ap (λ ps. module_of y.address y.kind ps x.outputs x.input) (ap (λ (r : Wiring). r.pins) w) ∙ ap (λ cs. module_of y.address y.kind y.pins cs x.input) outputs
       ∙ ap (λ c. module_of y.address y.kind y.pins y.outputs c) input
 
-  same_modules : (xs ys : List ModulePlan) → All (IsWellModule a) xs → All (IsWellModule b) ys → map wiring_of xs ≡ map wiring_of ys → map packed_outputs xs ≡ map packed_outputs ys → map packed_input xs ≡ map packed_input ys → xs ≡ ys
+  same_modules : (xs ys : List ModulePlan) → All (HasWellBits a) xs → All (HasWellBits b) ys → map wiring_of xs ≡ map wiring_of ys → map packed_outputs xs ≡ map packed_outputs ys → map packed_input xs ≡ map packed_input ys → xs ≡ ys
   same_modules [] [] p q w o i = refl
   same_modules [] (y ∷ ys) p q w o i = absurd cc
   same_modules (x ∷ xs) [] p q w o i = absurd cc
@@ -157,8 +161,8 @@ module _ (a b : Plan) (wa : IsWell a) (wb : IsWell b) where
       let o1 : map packed_outputs xs ≡ map packed_outputs ys = cc in
       let i0 : packed_input x ≡ packed_input y = cc in
       let i1 : map packed_input xs ≡ map packed_input ys = cc in
-      ap (λ z. z ∷ xs) (same_module x y (All-head (IsWellModule a) x xs p) (All-head (IsWellModule b) y ys q) w0 o0 i0)
-      ∙ ap (λ zs. y ∷ zs) (same_modules xs ys (All-tail (IsWellModule a) x xs p) (All-tail (IsWellModule b) y ys q) w1 o1 i1)
+      ap (λ z. z ∷ xs) (same_module x y (All-head (HasWellBits a) x xs p) (All-head (HasWellBits b) y ys q) w0 o0 i0)
+      ∙ ap (λ zs. y ∷ zs) (same_modules xs ys (All-tail (HasWellBits a) x xs p) (All-tail (HasWellBits b) y ys q) w1 o1 i1)
 
 abbrev plan_of : List PointsPlan → List (List ℕ) → List (List ℕ) → List RoutePlan → List SubPlan → List (List ℕ) → List RequestRow → List StmtPlan → List ModulePlan → Plan
 plan_of points signals tracks routes subs flags requests statements modules = record {
@@ -178,10 +182,12 @@ same_plan packed a b x y =
     let both : packed_of a ≡ packed_of b = sym x.same ∙ y.same in
     let wa = x.well in
     let wb = y.well in
-    let points = same_rows packed_points (IsWellPoints a) (IsWellPoints b) (same_points a b wa wb) a.points b.points wa.points wb.points (ap (λ (p : Packed). p.points) both) in
-    let requests = same_rows packed_request (λ row. IsWellBody (scope_of_decisions a) row.body) (λ row. IsWellBody (scope_of_decisions b) row.body) (same_request a b wa wb) a.requests b.requests wa.requests wb.requests (ap (λ (p : Packed). p.requests) both) in
-    let statements = same_rows packed_statement (IsWellStatement a) (IsWellStatement b) (same_statement a b wa wb) a.statements b.statements wa.statements wb.statements (ap (λ (p : Packed). p.statements) both) in
-    let modules = same_modules a b wa wb a.modules b.modules wa.modules wb.modules (ap (λ (p : Packed). p.modules) both) (ap (λ (p : Packed). p.outputs) both) (ap (λ (p : Packed). p.inputs) both) in
+    let ra = wa.rules in
+    let rb = wb.rules in
+    let points = same_rows packed_points (HasWellMoves (scope_of_moves a)) (HasWellMoves (scope_of_moves b)) (same_points a b wa wb) a.points b.points ra.moves rb.moves (ap (λ (p : Packed). p.points) both) in
+    let requests = same_rows packed_request (λ row. IsWellBody (scope_of_decisions a) row.body) (λ row. IsWellBody (scope_of_decisions b) row.body) (same_request a b wa wb) a.requests b.requests ra.requests rb.requests (ap (λ (p : Packed). p.requests) both) in
+    let statements = same_rows packed_statement (IsWellStatement (scope_of_decisions a)) (IsWellStatement (scope_of_decisions b)) (same_statement a b wa wb) a.statements b.statements ra.statements rb.statements (ap (λ (p : Packed). p.statements) both) in
+    let modules = same_modules a b wa wb a.modules b.modules (λ k d within. (ra.outputs k d within, ra.inputs k d within)) (λ k d within. (rb.outputs k d within, rb.inputs k d within)) (ap (λ (p : Packed). p.modules) both) (ap (λ (p : Packed). p.outputs) both) (ap (λ (p : Packed). p.inputs) both) in
     ap (λ z. plan_of z a.signals a.tracks a.routes a.subs a.flags a.requests a.statements a.modules) points
     ∙ ap (λ z. plan_of b.points z a.tracks a.routes a.subs a.flags a.requests a.statements a.modules) (ap (λ (p : Packed). p.signals) both)
     ∙ ap (λ z. plan_of b.points b.signals z a.routes a.subs a.flags a.requests a.statements a.modules) (ap (λ (p : Packed). p.tracks) both)

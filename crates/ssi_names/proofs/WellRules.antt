@@ -8,8 +8,8 @@ use Rattle.std.proofs.lemmas.List.{length-replicate, length-set}
 use Rattle.std.proofs.lemmas.List.Elements.{All-head, All-tail, All-replicate, All-set}
 use Rattle.ssi_identities.specs.declared.fact.Kind.{Kind}
 use Rattle.ssi_identities.specs.declared.rule.Cond.{Cond}
-use Rattle.ssi_identities.specs.Allowed.{IsWellCond, IsWellBody}
-use Rattle.ssi_identities.specs.Wells.{scope_of_moves, scope_of_conds, scope_of_decisions, scope_of_inputs, IsWellStatement}
+use Rattle.ssi_identities.specs.Allowed.{CondScope, IsWellCond, IsWellBody}
+use Rattle.ssi_identities.specs.Wells.{scope_of_moves, scope_of_conds, scope_of_decisions, scope_of_inputs, AreWellOutputs, IsWellStatement}
 use Rattle.ssi_fop.specs.Statements.{StatementText}
 use Rattle.ssi_ipt.specs.Inputs.{InputsText}
 use Rattle.ssi_opt.specs.Outputs.{OutputText, OutputsText}
@@ -59,17 +59,13 @@ made_or P make (Some x) other one rest = one
 
 -- ---- rows of entries
 
--- the eight bits that are sent to a module
-pub record AreWellOutputs (P : Cond → Type 0) (outputs : List (Option Cond)) : Type 0 where
-  pub eight : length outputs ≡ 8
-  pub each : All (λ output. IfSome output P) outputs
-
 -- bits that are set one after another to well conditions
-outputs_by : {X : Type 0} (P : Cond → Type 0) (bit_of : X → ℕ) (make : X → Cond) (bits : List X) (outputs : List (Option Cond)) → length outputs ≡ 8 → All (λ bit. P (make bit)) bits
-    → All (λ output. IfSome output P) outputs → AreWellOutputs P (fold (λ before bit. slice_set before (bit_of bit) (Some (make bit))) outputs bits)
-outputs_by P bit_of make [] outputs eight all each = record { eight = eight; each = each }
-outputs_by P bit_of make (bit ∷ bits) outputs eight all each =
-    outputs_by P bit_of make bits (slice_set outputs (bit_of bit) (Some (make bit))) (length-set outputs (bit_of bit) (Some (make bit)) ∙ eight) (All-tail (λ bit. P (make bit)) bit bits all)
+outputs_by : {X : Type 0} (scope : CondScope) (bit_of : X → ℕ) (make : X → Cond) (bits : List X) (outputs : List (Option Cond)) → length outputs ≡ 8 → All (λ bit. IsWellCond scope (make bit)) bits
+    → All (λ output. IfSome output (IsWellCond scope)) outputs → AreWellOutputs scope (fold (λ before bit. slice_set before (bit_of bit) (Some (make bit))) outputs bits)
+outputs_by scope bit_of make [] outputs eight all each = record { eight = eight; each = each }
+outputs_by scope bit_of make (bit ∷ bits) outputs eight all each =
+    let P = IsWellCond scope in
+    outputs_by scope bit_of make bits (slice_set outputs (bit_of bit) (Some (make bit))) (length-set outputs (bit_of bit) (Some (make bit)) ∙ eight) (All-tail (λ bit. P (make bit)) bit bits all)
     (All-set (λ output. IfSome output P) outputs (bit_of bit) (Some (make bit)) (All-head (λ bit. P (make bit)) bit bits all) each)
 
 -- a text and the tree of its source
@@ -105,7 +101,7 @@ module _ (text : List ℕ) (tree : SourceText) where
 
   -- a statement
   pub statement_well : (earlier : List StatementText) (statement : StatementText) → f.statement_faults text (is_declared_in text tree) has_rule earlier statement ≡ []
-      → AreSpelledCommands statement.commands → IsSpelledCond statement.guard → IsWellStatement (resolved text tree) (statement_row text names statement)
+      → AreSpelledCommands statement.commands → IsSpelledCond statement.guard → IsWellStatement (scope_of_decisions (resolved text tree)) (statement_row text names statement)
   statement_well earlier statement none commands guard =
       let others = (nat_le 4096 (length earlier), too_many) ∷ [] in
       let first = commands_faults text (is_declared_in text tree) has_rule Statements others statement.commands in
@@ -144,7 +140,7 @@ module _ (text : List ℕ) (tree : SourceText) where
 
   -- the bits of an entry
   output_well : (earlier : OutputsText) (entry : OutputText) → f.output_faults text (is_declared_in text tree) has_rule (has_module_in text tree) earlier entry ≡ []
-      → All (λ bit. IsSpelledCond bit.1) entry.bits → AreWellOutputs (IsWellCond (scope_of_conds (resolved text tree) 0)) (outputs_row text (fact_by_name (counts_by names) names) (number_by_name names) entry)
+      → All (λ bit. IsSpelledCond bit.1) entry.bits → AreWellOutputs (scope_of_conds (resolved text tree) 0) (outputs_row text (fact_by_name (counts_by names) names) (number_by_name names) entry)
   output_well earlier entry none spelled =
       let judge = f.output_bit_faults text (is_declared_in text tree) has_rule in
       let P = IsWellCond (scope_of_conds (resolved text tree) 0) in
@@ -153,15 +149,15 @@ module _ (text : List ℕ) (tree : SourceText) where
       (λ before bit so spells. cond_well text names has_rule Outputs (scope_of_conds (resolved text tree) 0) (outputs_allow text tree) bit.1 spells
       (no_back _ (cond_faults text (is_declared_in text tree) has_rule Outputs bit.1) so)) [] entry.bits bits
       in
-      outputs_by P (λ bit. number text bit.0) (λ bit. condition text names bit.1) entry.bits (replicate 8 None) (length-replicate {A = Option Cond} 8 None) (λ k d within. fine k d within (spelled k d within))
+      outputs_by (scope_of_conds (resolved text tree) 0) (λ bit. number text bit.0) (λ bit. condition text names bit.1) entry.bits (replicate 8 None) (length-replicate {A = Option Cond} 8 None) (λ k d within. fine k d within (spelled k d within))
       (All-replicate (λ output. IfSome output P) 8 None tt)
 
   -- where the file has no faults, those that are sent to each address
   pub outputs_well : in_order (f.output_faults text (is_declared_in text tree) has_rule (has_module_in text tree)) [] tree.outputs ≡ [] → All (λ entry. All (λ bit. IsSpelledCond bit.1) entry.bits) tree.outputs
-      → (address : List ℕ) → AreWellOutputs (IsWellCond (scope_of_conds (resolved text tree) 0)) (outputs_at text names tree.outputs address)
+      → (address : List ℕ) → AreWellOutputs (scope_of_conds (resolved text tree) 0) (outputs_at text names tree.outputs address)
   outputs_well none spelled address =
       let make = outputs_row text (fact_by_name (counts_by names) names) (number_by_name names) in
-      let P = AreWellOutputs (IsWellCond (scope_of_conds (resolved text tree) 0)) in
+      let P = AreWellOutputs (scope_of_conds (resolved text tree) 0) in
       let fine = each_fine (f.output_faults text (is_declared_in text tree) has_rule (has_module_in text tree)) (λ (entry : OutputText). All (λ bit. IsSpelledCond bit.1) entry.bits → P (make entry)) output_well [] tree.outputs none in
       made_or P make (find _ tree.outputs) (replicate 8 None) (found_all (λ (entry : OutputText). P (make entry)) _ tree.outputs (λ k d within. fine k d within (spelled k d within)))
       (record { eight = length-replicate {A = Option Cond} 8 None; each = All-replicate (λ output. IfSome output (IsWellCond (scope_of_conds (resolved text tree) 0))) 8 None tt })

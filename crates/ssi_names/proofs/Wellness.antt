@@ -1,5 +1,5 @@
 -- A data set without faults is well.
-use Rattle.std.proofs.Common.{◌≡◌, ℕ, ◌+◌, ◌<◌, ◌≤◌, Bool, true, false, not, List, [], ◌∷◌, ◌++◌, map, length, refl, ap, sym, subst, ◌∙◌, arith}
+use Rattle.std.proofs.Common.{◌≡◌, ℕ, ◌+◌, ◌<◌, ◌≤◌, Bool, true, false, not, List, [], ◌∷◌, ◌++◌, map, length, refl, ap, sym, subst, get_or, ◌∙◌, arith}
 use Rattle.std.specs.Prelude.{⊤, All, IfSome, nat_le, ◌==◌}
 use Rattle.std.specs.List.{AllByRecursion, IsDistinct, position_or_len}
 use Rattle.std.specs.Str.{bytes_eq}
@@ -12,7 +12,7 @@ use Rattle.ssi_identities.specs.Facts.{IsWithinLimits}
 use Rattle.ssi_identities.specs.Allowed.{IsWellBody, IsWellCond}
 use Rattle.ssi_identities.specs.DataSets.{ModulePlan, counts_of, names_in}
 use Rattle.ssi_identities.specs.IdentityNames.{IsNameOf}
-use Rattle.ssi_identities.specs.Wells.{scope_of_moves, scope_of_conds, scope_of_decisions, scope_of_inputs, IsWellPoints, IsWellRoute, IsWellSub, IsWellStatement, wired_kind, IsWellModule, IsWell}
+use Rattle.ssi_identities.specs.Wells.{scope_of_moves, scope_of_conds, scope_of_decisions, scope_of_inputs, HasWellNames, IsWellPoints, IsWellRoute, IsWellSub, wired_kind, IsWellModule, HasWellMoves, IsWellStatement, AreWellOutputs, IsWell}
 use Rattle.ssi_fop.specs.Statements.{StatementText}
 use Rattle.ssi_terms.specs.declared.tree.Spot.{Spot}
 use Rattle.ssi_identities.specs.declared.data_set.RequestRow.{RequestRow}
@@ -29,7 +29,7 @@ use Rattle.ssi_names.specs.NameLists.{is_among}
 use Rattle.ssi_names.specs.Occurrences.{at, in_order}
 use Rattle.ssi_names.specs.Rows.{number_in, move_row, points_row, route_row, lie_row, sub_row, request_row, statement_row, outputs_at, input_at, module_row, resolved}
 use Rattle.ssi_names.specs.Texts.{characters}
-use Rattle.ssi_names.proofs.WellRules.{AreWellOutputs, moves_well, request_well, statement_well, statement_room, outputs_well, inputs_well}
+use Rattle.ssi_names.proofs.WellRules.{moves_well, request_well, statement_well, statement_room, outputs_well, inputs_well}
 use Rattle.ssi_names.proofs.WellScopes.{same_count, names_are}
 use Rattle.ssi_names.proofs.WellModules.{few_modules, new_address, address_fine, pins_fine, addresses_differ, kind_small, count_is, kind_is, row_wired, row_long}
 use Rattle.ssi_names.proofs.Distinct.{place_below, places_differ}
@@ -123,18 +123,17 @@ lies_differ text names lies none =
     (names_differ name_of judge (λ earlier lie fine. (lie_fits text names earlier lie fine).new) lies none))
 
 points_well : (text : List ℕ) (tree : SourceText) (earlier : List PointsText) (entry : PointsText) → f.points_faults text (is_declared_in text tree) (is_wired_in text tree) earlier entry ≡ []
-    → 0 < length entry.tracks → ((name : List ℕ) (lie : Bool) → IfSome (move_row text (declared text tree) tree.free name lie) (IsWellCond (scope_of_moves (resolved text tree))))
-    → IsWellPoints (resolved text tree) (points_row text (declared text tree) tree.free entry)
-points_well text tree earlier entry none some moves =
+    → 0 < length entry.tracks → IsWellPoints (counts_of (resolved text tree)) (points_row text (declared text tree) tree.free entry)
+points_well text tree earlier entry none some =
     let tracks = members_well text (declared text tree Track) 4 entry.tracks
     (no_back (f.wired_name_faults text (is_wired_in text tree) (λ (e : PointsText). e.name) 126 earlier entry)
     (in_order (f.member_faults text (is_declared_in text tree Track) 4) [] entry.tracks) none)
     in
     let same : length (map (number_in text (declared text tree Track)) entry.tracks) ≡ length entry.tracks = simp length-map in
-    record { tracks = tracks.0; some = omega (arith, same, some); few = tracks.1; free_normal = moves (characters text entry.name) false; free_reverse = moves (characters text entry.name) true }
+    record { tracks = tracks.0; some = omega (arith, same, some); few = tracks.1 }
 
 route_well : (text : List ℕ) (tree : SourceText) (earlier : List RouteText) (entry : RouteText) → f.route_faults text (is_declared_in text tree) earlier entry ≡ []
-    → 0 < length entry.subs → IsWellRoute (resolved text tree) (route_row text (declared text tree) entry)
+    → 0 < length entry.subs → IsWellRoute (counts_of (resolved text tree)) (route_row text (declared text tree) entry)
 route_well text tree earlier entry none some =
     let name = f.name_faults text (λ (e : RouteText). e.name) 512 earlier entry in
     let signal = f.reference_faults text (is_declared_in text tree Signal) entry.signal in
@@ -151,7 +150,7 @@ route_well text tree earlier entry none some =
     }
 
 sub_well : (text : List ℕ) (tree : SourceText) (earlier : List SubText) (entry : SubText) → f.sub_faults text (is_declared_in text tree) earlier entry ≡ []
-    → IsWellSub (resolved text tree) (sub_row text (declared text tree) entry)
+    → IsWellSub (counts_of (resolved text tree)) (sub_row text (declared text tree) entry)
 sub_well text tree earlier entry none =
     let names = declared text tree Points in
     let judge = f.lie_faults text (is_declared_in text tree Points) in
@@ -174,10 +173,8 @@ sub_well text tree earlier entry none =
 
 -- a module without faults
 module_well : (text : List ℕ) (tree : SourceText) (earlier : List ModuleText) (entry : ModuleText) → f.module_faults text (is_declared_in text tree) earlier entry ≡ []
-    → AreWellOutputs (IsWellCond (scope_of_conds (resolved text tree) 0)) (outputs_at text (declared text tree) tree.outputs (characters text entry.address))
-    → IfSome (input_at text (declared text tree) tree.inputs (characters text entry.address)) (IsWellBody (scope_of_inputs (resolved text tree)))
     → IsWellModule (resolved text tree) (module_row text (declared text tree) tree.outputs tree.inputs entry)
-module_well text tree earlier entry none outputs input =
+module_well text tree earlier entry none =
     let names = declared text tree in
     let word = characters text entry.kind in
     let address = new_address text earlier entry (address_fine text (is_declared_in text tree) earlier entry none) in
@@ -190,10 +187,12 @@ module_well text tree earlier entry none outputs input =
       pins = row_long text (names (f.kind_at_pins word)) (f.count_of_pins word) entry.pins ∙ count_is word;
       wired = subst (λ list. All (λ pin. IfSome pin (λ n. n < length list)) pins) same
           (row_wired text (names (f.kind_at_pins word)) (f.count_of_pins word) (f.is_named_by text earlier) entry.pins (pins_fine text (is_declared_in text tree) earlier entry none));
-      eight = outputs.eight;
-      outputs = outputs.each;
-      input = input;
     }
+
+-- the conditions of points, where each that is spelled and has no faults is well
+has_moves : (text : List ℕ) (tree : SourceText) → ((name : List ℕ) (lie : Bool) → IfSome (move_row text (declared text tree) tree.free name lie) (IsWellCond (scope_of_moves (resolved text tree))))
+    → (entry : PointsText) → HasWellMoves (scope_of_moves (resolved text tree)) (points_row text (declared text tree) tree.free entry)
+has_moves text tree moves entry = record { free_normal = moves (characters text entry.name) false; free_reverse = moves (characters text entry.name) true }
 
 -- so many rows as names are within the limit of the names
 few_by_names : {X Y : Type 0} (name : X → List ℕ) (row : X → Y) (xs : List X) (limit : ℕ) → AreNew (map name xs) limit → length (map row xs) ≤ limit
@@ -225,30 +224,42 @@ is_well text tree formed none =
     let fine = no_faults text tree none in
     let plan = resolved text tree in
     let names = declared text tree in
-    let points = each_fine (f.points_faults text known wired) (λ (e : PointsText). 0 < length e.tracks → IsWellPoints plan (points_row text names tree.free e))
-    (λ earlier e so some. points_well text tree earlier e so some (moves_well text tree fine.moves formed.moves)) [] tree.identities.points fine.points
-    in
-    let routes = each_fine (f.route_faults text known) (λ (e : RouteText). 0 < length e.subs → IsWellRoute plan (route_row text names e)) (route_well text tree) [] tree.identities.routes fine.routes in
+    let counts = counts_of plan in
+    let points = each_fine (f.points_faults text known wired) (λ (e : PointsText). 0 < length e.tracks → IsWellPoints counts (points_row text names tree.free e)) (points_well text tree) [] tree.identities.points fine.points in
+    let moves = moves_well text tree fine.moves formed.moves in
+    let routes = each_fine (f.route_faults text known) (λ (e : RouteText). 0 < length e.subs → IsWellRoute counts (route_row text names e)) (route_well text tree) [] tree.identities.routes fine.routes in
     let requests = each_fine (f.request_faults text known has_rule) (λ (e : Spot × BodyTree). IsSpelledBody e.1 → IsWellBody (scope_of_decisions plan) (request_row text names e).body) (request_well text tree) [] tree.requests fine.requests in
-    let statements = each_fine (f.statement_faults text known has_rule) (λ (e : StatementText). AreSpelledCommands e.commands → IsSpelledCond e.guard → IsWellStatement plan (statement_row text names e)) (statement_well text tree) [] tree.statements fine.statements in
-    let modules = each_fine (f.module_faults text known) (λ (e : ModuleText). IsWellModule plan (module_row text names tree.outputs tree.inputs e))
-    (λ earlier e so. module_well text tree earlier e so (outputs_well text tree fine.outputs formed.outputs (characters text e.address)) (inputs_well text tree fine.inputs formed.inputs (characters text e.address)))
-    [] tree.identities.modules fine.modules
-    in
+    let statements = each_fine (f.statement_faults text known has_rule) (λ (e : StatementText). AreSpelledCommands e.commands → IsSpelledCond e.guard → IsWellStatement (scope_of_decisions plan) (statement_row text names e)) (statement_well text tree) [] tree.statements fine.statements in
+    let modules = each_fine (f.module_faults text known) (λ (e : ModuleText). IsWellModule plan (module_row text names tree.outputs tree.inputs e)) (module_well text tree) [] tree.identities.modules fine.modules in
+    let outputs = outputs_well text tree fine.outputs formed.outputs in
+    let inputs = inputs_well text tree fine.inputs formed.inputs in
+    let made = module_row text names tree.outputs tree.inputs in
     record {
-      limits = good_counts text tree none;
-      few_statements = few_rows_where (statement_row text names) (f.statement_faults text known has_rule) (λ (e : StatementText). AreSpelledCommands e.commands) 4096 (statement_room text tree) tree.statements formed.commands fine.statements;
-      few_modules = few_modules text known (module_row text names tree.outputs tree.inputs) tree.identities.modules fine.modules;
-      names = λ kind. subst (All (IsNameOf kind)) (sym (names_are text tree kind)) (formed.names kind);
-      differ = λ kind. subst (IsDistinct bytes_eq) (sym (names_are text tree kind)) (new_of text tree none kind).differ;
-      points = All-map (IsWellPoints plan) (points_row text names tree.free) tree.identities.points (λ k d within. points k d within (formed.tracks_of_points k d within));
-      routes = All-map (IsWellRoute plan) (route_row text names) tree.identities.routes (λ k d within. routes k d within (formed.subs_of_routes k d within));
-      subs = All-map (IsWellSub plan) (sub_row text names) tree.identities.subs
-          (each_fine (f.sub_faults text known) (λ (e : SubText). IsWellSub plan (sub_row text names e)) (sub_well text tree) [] tree.identities.subs fine.subs);
-      requests = All-map (λ (row : RequestRow). IsWellBody (scope_of_decisions plan) row.body) (request_row text names) tree.requests (λ k d within. requests k d within (formed.bodies k d within));
-      statements = All-map (IsWellStatement plan) (statement_row text names) tree.statements (λ k d within. statements k d within (formed.commands k d within) (formed.guards k d within));
-      modules = All-map (IsWellModule plan) (module_row text names tree.outputs tree.inputs) tree.identities.modules modules;
-      addresses = subst (IsDistinct (λ a b. a == b)) (sym (map-map (λ (row : ModulePlan). row.address) (module_row text names tree.outputs tree.inputs) tree.identities.modules))
-          (addresses_differ text known tree.identities.modules fine.modules);
-      wired = λ kind few identity within. wired_once text tree formed none kind few identity (subst (λ list. identity < length list) (names_are text tree (wired_kind kind)) within);
+      size = record {
+        limits = good_counts text tree none;
+        few_statements = few_rows_where (statement_row text names) (f.statement_faults text known has_rule) (λ (e : StatementText). AreSpelledCommands e.commands) 4096 (statement_room text tree) tree.statements formed.commands fine.statements;
+        few_modules = few_modules text known made tree.identities.modules fine.modules;
+      };
+      names = λ kind. record {
+        names = subst (All (IsNameOf kind)) (sym (names_are text tree kind)) (formed.names kind);
+        differ = subst (IsDistinct bytes_eq) (sym (names_are text tree kind)) (new_of text tree none kind).differ;
+      };
+      layout = record {
+        points = All-map (IsWellPoints counts) (points_row text names tree.free) tree.identities.points (λ k d within. points k d within (formed.tracks_of_points k d within));
+        routes = All-map (IsWellRoute counts) (route_row text names) tree.identities.routes (λ k d within. routes k d within (formed.subs_of_routes k d within));
+        subs = All-map (IsWellSub counts) (sub_row text names) tree.identities.subs
+            (each_fine (f.sub_faults text known) (λ (e : SubText). IsWellSub counts (sub_row text names e)) (sub_well text tree) [] tree.identities.subs fine.subs);
+      };
+      wiring = record {
+        modules = All-map (IsWellModule plan) made tree.identities.modules modules;
+        addresses = subst (IsDistinct (λ a b. a == b)) (sym (map-map (λ (row : ModulePlan). row.address) made tree.identities.modules)) (addresses_differ text known tree.identities.modules fine.modules);
+        wired = λ kind few identity within. wired_once text tree formed none kind few identity (subst (λ list. identity < length list) (names_are text tree (wired_kind kind)) within);
+      };
+      rules = record {
+        moves = All-map (HasWellMoves (scope_of_moves plan)) (points_row text names tree.free) tree.identities.points (λ k d within. has_moves text tree moves (get_or tree.identities.points k d));
+        requests = All-map (λ (row : RequestRow). IsWellBody (scope_of_decisions plan) row.body) (request_row text names) tree.requests (λ k d within. requests k d within (formed.bodies k d within));
+        statements = All-map (IsWellStatement (scope_of_decisions plan)) (statement_row text names) tree.statements (λ k d within. statements k d within (formed.commands k d within) (formed.guards k d within));
+        outputs = All-map (λ (row : ModulePlan). AreWellOutputs (scope_of_conds plan 0) row.outputs) made tree.identities.modules (λ k d within. outputs (characters text (get_or tree.identities.modules k d).address));
+        inputs = All-map (λ (row : ModulePlan). IfSome row.input (IsWellBody (scope_of_inputs plan))) made tree.identities.modules (λ k d within. inputs (characters text (get_or tree.identities.modules k d).address));
+      };
     }

@@ -122,7 +122,7 @@ first_of (suc number) row (r ∷ rows) differ there =
 -- the module of its address is itself
 own_address : (plan : Plan) (number : ℕ) (row : ModulePlan) → IsWell plan → slice_get plan.modules number ≡ Some row → module_in plan row.address ≡ Some row
 own_address plan number row well there =
-    let first = first_of number row plan.modules well.addresses there in
+    let first = first_of number row plan.modules well.wiring.addresses there in
     let within : nat_lt number (length plan.modules) ≡ true = grind (arith, nat_tests, slice_get_within plan.modules number row there) in
     let found : module_with plan row.address ≡ Some number = rw (first, within) refl in
     ap (option_and_then (slice_get plan.modules)) found ∙ there

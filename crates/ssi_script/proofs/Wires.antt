@@ -144,7 +144,7 @@ pub wire_is : (plan : Plan) (word : EventWord) (kind : Kind) (identity number pi
 wire_is plan word kind identity number pin well within same at =
     let known = (row_is_well plan number at.row well at.row_is).kind in
     let own : at.row.kind ≡ module_kind_of word = sym (number_known at.row.kind known) ∙ ap number_of_kind (at.kind_is ∙ same) ∙ number_known (module_kind_of word) (kind_known word) in
-    let once : count_by (is_wired_to identity) (pins_of_kind plan (module_kind_of word)) ≡ 1 = well.wired (module_kind_of word) (kind_known word) identity within in
+    let once : count_by (is_wired_to identity) (pins_of_kind plan (module_kind_of word)) ≡ 1 = well.wiring.wired (module_kind_of word) (kind_known word) identity within in
     wired_first identity (module_kind_of word) plan.modules number pin at.row at.row_is own at.pin_is (omega (arith, once))
 
 some_address : (a : ℕ) (row : ModulePlan) (o : Option ModulePlan) → o ≡ Some row → Some a ≡ option_map (λ row. row.address) o → row.address ≡ a

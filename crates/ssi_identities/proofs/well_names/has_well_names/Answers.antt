@@ -1,6 +1,6 @@
 use Rattle.std.proofs.Common.{refl, arith}
 use Rattle.ssi_identities.specs.declared.fact.Kind.TheVariants.{Points, Signal, Track, Route, Subroute, Flag, Request}
-use Rattle.ssi_identities.specs.Deciding.{HasWellNames}
+use Rattle.ssi_identities.specs.Wells.{HasWellNames}
 use Rattle.ssi_identities.proofs.well_names.has_well_names.Goals as goal
 
 pub returns : goal.returns

@@ -1,6 +1,6 @@
 use Rattle.std.proofs.Common.{ℕ, ◌<◌, get_or}
 use Rattle.ssi_identities.specs.declared.fact.Kind.{Kind}
-use Rattle.ssi_identities.specs.Deciding.{HasWellNames}
+use Rattle.ssi_identities.specs.Wells.{HasWellNames}
 use Rattle.ssi_identities.proofs.well_names.has_well_names.Given as goal
 
 abbrev pub invariant-loop-kind : goal.invariant-loop-kind

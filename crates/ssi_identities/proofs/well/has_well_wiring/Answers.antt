@@ -1,6 +1,6 @@
 use Rattle.std.proofs.Common.{sym, ◌∙◌}
-use Rattle.ssi_identities.proofs.well.has_well_modules.Goals as goal
-use Rattle.ssi_identities.proofs.well.has_well_modules.Goals.{then-are_well_modules, else-are_well_modules}
+use Rattle.ssi_identities.proofs.well.has_well_wiring.Goals as goal
+use Rattle.ssi_identities.proofs.well.has_well_wiring.Goals.{then-are_well_modules, else-are_well_modules}
 
 pub returns-then-do_addresses_differ : goal.returns-then-do_addresses_differ
 returns-then-do_addresses_differ c = elim c.if-are_well_modules.branch [
