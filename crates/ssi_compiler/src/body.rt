@@ -7,8 +7,7 @@ ghost use Rattle.ssi_identities.specs.Codes.{IsShort, code_of_body, code_of_comm
 use crate::condition::write_cond_with_length;
 use crate::length::{fill_length, leave_length};
 use ssi_base::OutOfMemory;
-use ssi_identities::{Body, BodyItem, Cmd};
-use ssi_image::BodyOp;
+use ssi_identities::{Body, BodyItem, BodyOp, Cmd};
 
 /// Appends the code of a body.
 #[cycle(body)]

@@ -6,8 +6,7 @@ ghost use Rattle.ssi_identities.specs.Codes.{IsShort, code_of_cond, code_of_item
 
 use crate::length::{fill_length, leave_length};
 use ssi_base::OutOfMemory;
-use ssi_identities::{Cond, CondItem};
-use ssi_image::CondOp;
+use ssi_identities::{Cond, CondItem, CondOp};
 
 /// Appends the code of a condition.
 #[cycle(cond)]

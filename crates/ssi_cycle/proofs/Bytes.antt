@@ -7,7 +7,8 @@ use Rattle.ssi_identities.specs.declared.rule.Cond.{Cond}
 use Rattle.ssi_identities.specs.DataSets.{Plan, ModulePlan}
 use Rattle.ssi_identities.specs.States.{State}
 use Rattle.ssi_image.specs.Places.{output_of}
-use Rattle.ssi_cycle.specs.Outputs.{byte_of, output_bit}
+use Rattle.ssi_identities.specs.Values.{byte_of}
+use Rattle.ssi_cycle.specs.Outputs.{output_bit}
 use Rattle.ssi_cycle.proofs.Restricting.{where_given}
 
 -- the bits from one on

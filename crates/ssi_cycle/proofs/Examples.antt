@@ -2,12 +2,12 @@
 use Rattle.std.proofs.Common.{◌≡◌, refl, ap, ◌∙◌, ℕ, Bool, true, false, not, ◌&&◌, List, [], ◌∷◌, ◌++◌, map, Some, None}
 use Rattle.std.proofs.Math.Path.{fun_ext}
 use Rattle.ssi_identities.specs.States.{State, truth_of}
-use Rattle.ssi_identities.specs.Values.{bit_of, scene_of, value_of}
+use Rattle.ssi_identities.specs.Values.{bit_of, scene_of, value_of, byte_of}
 use Rattle.ssi_identities.specs.Steps.{Act, Valuation, act_of, choice_act, command_act, effect_of, guards_of, in_turn, no_act}
 use Rattle.ssi_identities.proofs.Acts.{act_of_body, act_of_do, act_of_if, left_by}
 use Rattle.ssi_identities.proofs.Values.{all_hold, bit_holds, fact_holds, lit_holds}
-use Rattle.ssi_image.specs.Places.{body_of_statement}
-use Rattle.ssi_cycle.specs.Outputs.{byte_of, output_byte}
+use Rattle.ssi_identities.specs.Allowed.{body_of_statement}
+use Rattle.ssi_cycle.specs.Outputs.{output_byte}
 use Rattle.ssi_cycle.specs.Worlds.{World, Event, after_event, deeds_of_event}
 use Rattle.ssi_cycle.specs.Worlds.Event.{Minor}
 use Rattle.ssi_cycle.specs.Moments.{Change, changes_of_deeds, changes_of_events}

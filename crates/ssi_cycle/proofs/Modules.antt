@@ -5,9 +5,8 @@ use Rattle.std.proofs.lemmas.List.Elements.{All-get_or}
 use Rattle.std.proofs.lemmas.List.Quantifiers.{position-Some}
 use Rattle.std.proofs.lemmas.Bool.{eqb-true}
 use Rattle.std.proofs.lemmas.Option.{slice_get-get_or, slice_get_within, get_or_from_slice_get}
-use Rattle.ssi_identities.specs.DataSets.{Plan, ModulePlan}
+use Rattle.ssi_identities.specs.DataSets.{Plan, ModulePlan, module_with}
 use Rattle.ssi_identities.specs.Wells.{AreWellOutputs, IsWell, IsWellModule, scope_of_conds}
-use Rattle.ssi_image.specs.Places.{module_with}
 use Rattle.ssi_cycle.specs.Exchanges.{module_in}
 
 -- a module without anything

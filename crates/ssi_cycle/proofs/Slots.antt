@@ -9,7 +9,8 @@ use Rattle.ssi_identities.specs.States.{IsStateOf, State}
 use Rattle.ssi_identities.specs.Steps.{effect_of}
 use Rattle.ssi_identities.specs.Values.{cond_of}
 use Rattle.ssi_image.specs.declared.places.BodyAt.TheVariants.{Statement}
-use Rattle.ssi_image.specs.Places.{body_at, body_of_statement}
+use Rattle.ssi_identities.specs.Allowed.{body_of_statement}
+use Rattle.ssi_image.specs.Places.{body_at}
 use Rattle.ssi_cycle.specs.Deeds.{Deed, after_deeds}
 use Rattle.ssi_cycle.specs.Deeds.Deed.{Acts}
 use Rattle.ssi_cycle.specs.Statements.{deed_of_statement, deeds_of_statements, share_of, statements_in}

@@ -1,8 +1,7 @@
 -- What arrives in a slot, and the deeds that follow from it.
 use Rattle.std.specs.Prelude.{ℕ, List, [], ◌∷◌, Option, Some, None, option_and_then, slice_get}
 use Rattle.ssi_identities.specs.declared.rule.Body.{Body}
-use Rattle.ssi_identities.specs.DataSets.{Plan, ModulePlan}
-use Rattle.ssi_image.specs.Places.{module_with}
+use Rattle.ssi_identities.specs.DataSets.{Plan, ModulePlan, module_with}
 use Rattle.ssi_telegrams.specs.Telegram.{reported_byte}
 use Rattle.ssi_cycle.specs.Deeds.{Deed}
 use Rattle.ssi_cycle.specs.Deeds.Deed.{Acts, Restricts}

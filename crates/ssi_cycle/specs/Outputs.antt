@@ -1,16 +1,11 @@
 -- The command that goes out in a slot.
-use Rattle.std.specs.Prelude.{ℕ, ◌+◌, ◌*◌, Bool, false, if◌then◌else◌, List, [], ◌∷◌, map, Option, Some, None, option_map}
+use Rattle.std.specs.Prelude.{ℕ, Bool, false, List, map, Option, Some, None, option_map}
 use Rattle.ssi_identities.specs.declared.rule.Cond.{Cond}
 use Rattle.ssi_identities.specs.DataSets.{Plan, ModulePlan}
 use Rattle.ssi_identities.specs.States.{State}
-use Rattle.ssi_identities.specs.Values.{value_of}
+use Rattle.ssi_identities.specs.Values.{byte_of, value_of}
 use Rattle.ssi_telegrams.specs.Telegram.{command_telegram_of}
 use Rattle.ssi_cycle.specs.Exchanges.{module_in}
-
--- the byte of some bits, the lowest first
-abbrev pub byte_of : List Bool → ℕ
-byte_of [] = 0
-byte_of (bit ∷ bits) = (if bit then 1 else 0) + 2 * byte_of bits
 
 -- a bit is 1 where its condition holds, and 0 where it has none; there is no report, and none has influence on it
 abbrev pub output_bit : Plan → State → Option Cond → Bool

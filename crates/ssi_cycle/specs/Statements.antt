@@ -1,7 +1,7 @@
 -- Which statements act in a slot.
 use Rattle.std.specs.Prelude.{ℕ, ◌+◌, ◌*◌, ◌/◌, List, length, map, take, drop}
 use Rattle.ssi_identities.specs.DataSets.{Plan, StmtPlan}
-use Rattle.ssi_image.specs.Places.{body_of_statement}
+use Rattle.ssi_identities.specs.Allowed.{body_of_statement}
 use Rattle.ssi_cycle.specs.Deeds.{Deed}
 use Rattle.ssi_cycle.specs.Deeds.Deed.{Acts}
 

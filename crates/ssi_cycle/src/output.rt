@@ -9,12 +9,10 @@ ghost use Rattle.ssi_cycle.specs.Outputs.{output_bit, output_byte, output_in};
 
 use crate::NO_REPORT;
 use ssi_eval::eval_cond;
+use ssi_identities::limits::BITS;
 use ssi_image::{CondAt, Image};
 use ssi_state::State;
 use ssi_telegrams::command_bytes;
-
-/// How many bits a command has.
-const BITS: u8 = 8;
 
 /// A bit that goes to a module: 1 or 0.
 fn bit(image: &Image, module: u8, bit: u8, state: &State) -> u8

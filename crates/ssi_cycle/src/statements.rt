@@ -2,6 +2,7 @@
 
 ghost use Rattle.std.specs.Prelude.{◌≡◌, ◌<◌, ◌≤◌, ◌↔◌, length, IsTrue};
 ghost use Rattle.ssi_identities.specs.DataSets.{counts_of};
+ghost use Rattle.ssi_identities.specs.Limits.{most_statements};
 ghost use Rattle.ssi_identities.specs.States.{IsStateOf};
 ghost use Rattle.ssi_identities.specs.Wells.{IsWell};
 ghost use Rattle.ssi_cycle.specs.Deeds.{after_deeds};
@@ -14,7 +15,7 @@ use ssi_state::State;
 
 /// How many of so many statements each slot has: the least number of which 64 slots have enough.
 fn share_of(count: u16) -> u16
-    requires { count ≤ 4096 }
+    requires { count ≤ most_statements }
     ensures { result ≡ share_of_count count }
 {
     (count + 63) / 64

@@ -9,7 +9,7 @@ use Rattle.ssi_identities.specs.declared.fact.FactKind.{FactKind}
 use Rattle.ssi_identities.specs.declared.rule.Cond.{Cond}
 use Rattle.ssi_identities.specs.declared.rule.Body.{Body}
 use Rattle.ssi_identities.specs.declared.rule.BodyItem.TheVariants.{If}
-use Rattle.ssi_identities.specs.Allowed.{CondScope, BodyScope, IsWellCond, IsWellBody, body_of_commands, is_decided, is_reported, is_fact_of, is_number_of}
+use Rattle.ssi_identities.specs.Allowed.{CondScope, BodyScope, IsWellCond, IsWellBody, body_of_commands, is_decided, is_reported, is_fact_of, is_number_of, body_of_statement}
 use Rattle.ssi_identities.specs.Codes.{code_of_body, code_of_cond}
 use Rattle.ssi_identities.specs.DataSets.{ModulePlan, Plan, StmtPlan, counts_of}
 use Rattle.ssi_identities.specs.Facts.{Fact, fact_count_of, facts_of}
@@ -23,7 +23,7 @@ use Rattle.ssi_image.specs.declared.places.BodyAt.{BodyAt}
 use Rattle.ssi_image.specs.declared.places.BodyAt.TheVariants.{Request, Statement, Input}
 use Rattle.ssi_image.specs.declared.places.CondAt.{CondAt}
 use Rattle.ssi_image.specs.declared.places.CondAt.TheVariants.{Output, Free}
-use Rattle.ssi_image.specs.Places.{body_at, body_of_statement, cond_at, input_of}
+use Rattle.ssi_image.specs.Places.{body_at, cond_at, input_of}
 use Rattle.ssi_image.specs.Shown.{IsStatementCode}
 use Rattle.ssi_eval.specs.BodyCodes.{IsBodyScopeIn, IsBodyCode, IsSomeBodyCode}
 use Rattle.ssi_eval.specs.CondCodes.{IsCondCode, IsSomeCondCode}

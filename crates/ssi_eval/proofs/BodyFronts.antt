@@ -16,13 +16,13 @@ use Rattle.ssi_identities.specs.Steps.{body_of, effect_of}
 use Rattle.ssi_identities.specs.Values.{value_of}
 use Rattle.ssi_identities.proofs.Bodies.{do_is, if_is, body_item_cases}
 use Rattle.ssi_identities.proofs.Laws.{effect_of_do}
-use Rattle.ssi_image.proofs.OpcodeBytes.{body_op_same, command_code, choice_code}
+use Rattle.ssi_identities.proofs.Codes.{body_op_same, command_code, choice_code}
 use Rattle.ssi_eval.specs.declared.frame.Frame.{Frame}
-use Rattle.ssi_image.specs.declared.opcode.BodyOp.{BodyOp}
-use Rattle.ssi_image.specs.declared.opcode.BodyOp.TheVariants as op
+use Rattle.ssi_identities.specs.declared.opcode.BodyOp.{BodyOp}
+use Rattle.ssi_identities.specs.declared.opcode.BodyOp.TheVariants as op
 use Rattle.ssi_eval.specs.Acting.{Leaves, LeavesFrom}
 use Rattle.ssi_eval.specs.BodyCodes.{IsBodyScopeIn, IsChoiceCode, taken}
-use Rattle.ssi_image.specs.Opcodes.{body_byte_of, body_op_of}
+use Rattle.ssi_identities.specs.Opcodes.{body_byte_of, body_op_of}
 use Rattle.ssi_eval.proofs.BodyLevels.{NextPart, next_part, code_by_parts, choice_effect, taken_within, taken_depth}
 use Rattle.ssi_eval.proofs.Choices.{taken_short}
 use Rattle.ssi_eval.proofs.Levels.{and_first, and_second}

@@ -8,16 +8,16 @@ use Rattle.ssi_identities.specs.declared.rule.BodyItem.{BodyItem}
 use Rattle.ssi_identities.specs.declared.rule.BodyItem.TheVariants.{If}
 use Rattle.ssi_identities.specs.declared.rule.Body.{Body}
 use Rattle.ssi_identities.specs.Allowed.{BodyScope, greatest, part_within, body_within, is_part_within, is_body_within, else_within, part_levels, body_levels, part_depth, body_depth, else_levels}
-use Rattle.ssi_identities.specs.Codes.{IsShort, body_code, part_code, code_of_body, code_of_part}
+use Rattle.ssi_identities.specs.Codes.{IsShort, body_code, part_code, code_of_body, code_of_part, code_of_parts}
 use Rattle.ssi_identities.specs.DataSets.{Plan}
 use Rattle.ssi_identities.specs.States.{State}
 use Rattle.ssi_identities.specs.Steps.{body_of, effect_of, item_effect_of}
 use Rattle.ssi_identities.specs.Values.{value_of}
 use Rattle.ssi_identities.proofs.Bodies.{body_is, body_item_cases}
 use Rattle.ssi_identities.proofs.Laws.{effect_of_none, effect_of_items, effect_of_if, effect_of_if_else}
-use Rattle.ssi_image.proofs.OpcodeBytes.{command_code, choice_code}
+use Rattle.ssi_identities.proofs.Codes.{command_code, choice_code}
 use Rattle.ssi_eval.specs.declared.frame.Frame.{Frame}
-use Rattle.ssi_eval.specs.Acting.{code_of_parts, IsBodyLevel, Leaves, LeavesFrom}
+use Rattle.ssi_eval.specs.Acting.{IsBodyLevel, Leaves, LeavesFrom}
 use Rattle.ssi_eval.specs.BodyCodes.{taken}
 use Rattle.ssi_eval.proofs.Levels.{and_first, and_second}
 

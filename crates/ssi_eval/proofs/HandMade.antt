@@ -9,13 +9,13 @@ use Rattle.ssi_identities.specs.declared.rule.CondItem.{CondItem}
 use Rattle.ssi_identities.specs.declared.rule.CondItem.TheVariants.{Lit, Bit, Any}
 use Rattle.ssi_identities.specs.declared.rule.Cond.{Cond}
 use Rattle.ssi_identities.specs.Allowed.{greatest, item_within, cond_within, is_item_within, is_within, item_levels, cond_levels, item_depth, cond_depth}
-use Rattle.ssi_identities.specs.Codes.{code_of_cond, code_of_item, with_length}
+use Rattle.ssi_identities.specs.Codes.{code_of_cond, code_of_item, with_length, code_of_items, code_of_alternatives}
 use Rattle.ssi_identities.specs.States.{State, fact_total_of}
 use Rattle.ssi_identities.specs.Values.{Scene, bit_of, cond_of, holds_in}
 use Rattle.ssi_identities.proofs.Conditions.{lit_is, bit_is, any_is, cond_is}
-use Rattle.ssi_image.proofs.OpcodeBytes.{lit_code, bit_code, group_code}
+use Rattle.ssi_identities.proofs.Codes.{lit_code, bit_code, group_code}
 use Rattle.ssi_eval.specs.declared.frame.Frame.{Frame}
-use Rattle.ssi_eval.specs.Frames.{Reading, Fits, GoesOn, code_of_items, code_of_others}
+use Rattle.ssi_eval.specs.Frames.{Reading, Fits, GoesOn}
 use Rattle.ssi_eval.specs.HandMade.{IsHandMade, four_facts}
 use Rattle.ssi_eval.proofs.Starting.{starts}
 use Rattle.ssi_eval.proofs.Levels.{code_by_items, depth_by_items}
@@ -45,7 +45,7 @@ pub record Made (code : List ℕ) (depth : ℕ) : Type 0 where
 -- some alternatives
 pub record Others (code : List ℕ) (depth count : ℕ) : Type 0 where
   pub conds : List Cond
-  pub is : code_of_others conds ≡ code
+  pub is : code_of_alternatives conds ≡ code
   pub within : list_all (is_within four_facts) conds ≡ true
   pub deep : greatest (map cond_depth conds) ≡ depth
   pub many : length conds ≡ count
@@ -92,7 +92,7 @@ or_last x = record { conds = x.cond ∷ []; is = ap (λ (c : List ℕ). with_len
 pub or : {code codes : List ℕ} {depth deeper count : ℕ} → Made code depth → Others codes deeper count → Others (with_length code ++ codes) (max depth deeper) (1 + count)
 or {code = code} {depth = depth} x xs = record {
   conds = x.cond ∷ xs.conds;
-  is = ap (λ (c : List ℕ). with_length c ++ code_of_others xs.conds) x.is ∙ ap (λ (c : List ℕ). with_length code ++ c) xs.is;
+  is = ap (λ (c : List ℕ). with_length c ++ code_of_alternatives xs.conds) x.is ∙ ap (λ (c : List ℕ). with_length code ++ c) xs.is;
   within = both (is_within four_facts x.cond) (list_all (is_within four_facts) xs.conds) x.within xs.within;
   deep = ap (λ (n : ℕ). max n (greatest (map cond_depth xs.conds))) x.deep ∙ ap (max depth) xs.deep;
   many = omega (arith, xs.many);

@@ -5,17 +5,17 @@ use Rattle.std.proofs.lemmas.Bool.{ltb-true}
 use Rattle.ssi_identities.specs.declared.rule.CondItem.TheVariants.{Lit, Bit, Free, Any}
 use Rattle.ssi_identities.specs.declared.rule.Cond.{Cond}
 use Rattle.ssi_identities.specs.Allowed.{CondScope, greatest, item_within, cond_within, item_levels, cond_levels, item_depth, cond_depth}
-use Rattle.ssi_identities.specs.Codes.{IsShort, with_length}
+use Rattle.ssi_identities.specs.Codes.{IsShort, with_length, code_of_alternatives}
 use Rattle.ssi_identities.specs.States.{truth_of}
 use Rattle.ssi_identities.specs.Values.{Scene, is_as_wanted}
 use Rattle.ssi_identities.proofs.Conditions.{lit_is, bit_is, free_is, any_is, cond_item_cases}
 use Rattle.ssi_identities.proofs.Values.{lit_holds, bit_holds, free_holds, group_holds}
-use Rattle.ssi_image.proofs.OpcodeBytes.{cond_op_same, lit_code, bit_code, free_code, group_code}
+use Rattle.ssi_identities.proofs.Codes.{cond_op_same, lit_code, bit_code, free_code, group_code}
 use Rattle.ssi_eval.specs.declared.frame.Frame.{Frame}
-use Rattle.ssi_image.specs.declared.opcode.CondOp.{CondOp}
-use Rattle.ssi_image.specs.declared.opcode.CondOp.TheVariants as op
-use Rattle.ssi_eval.specs.Frames.{Gives, code_of_others}
-use Rattle.ssi_image.specs.Opcodes.{cond_byte_of, cond_op_of}
+use Rattle.ssi_identities.specs.declared.opcode.CondOp.{CondOp}
+use Rattle.ssi_identities.specs.declared.opcode.CondOp.TheVariants as op
+use Rattle.ssi_eval.specs.Frames.{Gives}
+use Rattle.ssi_identities.specs.Opcodes.{cond_byte_of, cond_op_of}
 use Rattle.ssi_eval.proofs.Levels.{NextItem, next_item, alternatives_within}
 
 -- a first byte says one kind
@@ -118,13 +118,13 @@ module _ (scene : Scene) (scope : CondScope) (level : Frame) (frames : List Fram
   at_any conds next =
       let deep : item_depth (Any conds) ≡ 1 + greatest (map cond_depth conds) = any_is ℕ ℕ item_levels cond_levels conds in
       let depth = next.depth in
-      let short : length (code_of_others conds) < 2 ^ 32 = let whole = next.short in omega (arith, ap length (group_code conds)) in
+      let short : length (code_of_alternatives conds) < 2 ^ 32 = let whole = next.short in omega (arith, ap length (group_code conds)) in
       record {
         kind = op.Group;
-        operand = with_length (code_of_others conds) ++ next.rest;
+        operand = with_length (code_of_alternatives conds) ++ next.rest;
         is = next.is ∙ ap (λ (c : List ℕ). c ++ next.rest) (group_code conds);
         at = record {
-          alternatives = code_of_others conds;
+          alternatives = code_of_alternatives conds;
           rest = next.rest;
           short = short;
           is = refl;

@@ -7,13 +7,13 @@ use Rattle.ssi_identities.specs.declared.rule.CondItem.{CondItem}
 use Rattle.ssi_identities.specs.declared.rule.CondItem.TheVariants.{Any}
 use Rattle.ssi_identities.specs.declared.rule.Cond.{Cond}
 use Rattle.ssi_identities.specs.Allowed.{CondScope, greatest, item_within, cond_within, is_item_within, is_within, item_levels, cond_levels, item_depth, cond_depth}
-use Rattle.ssi_identities.specs.Codes.{IsShort, item_code, cond_code, code_of_item, code_of_cond, with_length}
+use Rattle.ssi_identities.specs.Codes.{IsShort, item_code, cond_code, code_of_item, code_of_cond, with_length, code_of_items, code_of_alternatives}
 use Rattle.ssi_identities.specs.Values.{Scene, item_holds, holds_in}
 use Rattle.ssi_identities.proofs.Conditions.{any_is, cond_is, cond_item_cases}
 use Rattle.ssi_identities.proofs.Values.{all_hold}
-use Rattle.ssi_image.proofs.OpcodeBytes.{lit_code, bit_code, free_code, group_code}
+use Rattle.ssi_identities.proofs.Codes.{lit_code, bit_code, free_code, group_code}
 use Rattle.ssi_eval.specs.declared.frame.Frame.{Frame}
-use Rattle.ssi_eval.specs.Frames.{code_of_items, code_of_others, IsLevel, Gives}
+use Rattle.ssi_eval.specs.Frames.{IsLevel, Gives}
 
 pub and_first : (a b : Bool) → (a && b) ≡ true → a ≡ true
 and_first true b h = refl
@@ -58,9 +58,9 @@ items_end scene [] none = refl
 items_end scene (item ∷ items) none = absurd (omega (arith, item_is_long item, length-append (code_of_item item) (code_of_items items)))
 
 -- none of no alternatives holds
-others_end : (scene : Scene) (others : List Cond) → length (code_of_others others) ≡ 0 → list_any (holds_in scene) others ≡ false
+others_end : (scene : Scene) (others : List Cond) → length (code_of_alternatives others) ≡ 0 → list_any (holds_in scene) others ≡ false
 others_end scene [] none = refl
-others_end scene (cond ∷ others) none = absurd (omega (arith, length-append (with_length (code_of_cond cond)) (code_of_others others)))
+others_end scene (cond ∷ others) none = absurd (omega (arith, length-append (with_length (code_of_cond cond)) (code_of_alternatives others)))
 
 or_true : (a b : Bool) → a ≡ true → (a || b) ≡ true
 or_true true b h = refl
@@ -104,13 +104,13 @@ next_alternative scene scope level frames result more gives = by_others gives.1 
     by_others : (others : List Cond) → IsLevel scope (length frames) level gives.0 others → Gives scene scope frames (list_any (holds_in scene) others) result → NextAlternative scene scope level frames result
     by_others [] is go = absurd (omega (arith, ap length is.others_are))
     by_others (cond ∷ others) is go =
-        let long = length-append (with_length (code_of_cond cond)) (code_of_others others) in
+        let long = length-append (with_length (code_of_cond cond)) (code_of_alternatives others) in
         let short = is.others_short in
         let deep = is.others_depth in
         let same = code_by_items cond in
         record {
           piece = code_of_cond cond;
-          rest = code_of_others others;
+          rest = code_of_alternatives others;
           short = omega arith;
           is = is.others_are;
           gives = λ next items_are others_are. (

@@ -7,10 +7,10 @@ use Rattle.ssi_identities.specs.Codes.{IsShort, with_length}
 use Rattle.ssi_identities.specs.States.{State, fact_total_of, truth_of}
 use Rattle.ssi_identities.specs.Values.{Scene, bit_of, is_as_wanted}
 use Rattle.ssi_eval.specs.declared.frame.Frame.{Frame}
-use Rattle.ssi_image.specs.declared.opcode.CondOp.{CondOp}
+use Rattle.ssi_identities.specs.declared.opcode.CondOp.{CondOp}
 use Rattle.ssi_eval.specs.Frames.{Gives, LooksAt}
 use Rattle.ssi_eval.specs.Items.{CanRead}
-use Rattle.ssi_image.specs.Opcodes.{cond_byte_of}
+use Rattle.ssi_identities.specs.Opcodes.{cond_byte_of}
 use Rattle.ssi_eval.specs.Pieces.{BeginsItem, BeginsPiece}
 use Rattle.ssi_eval.proofs.ItemFronts.{At, AtFact, AtBit, AtFree, AtGroup, at_kind, front}
 

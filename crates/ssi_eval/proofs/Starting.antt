@@ -101,8 +101,8 @@ looks plan scope free state report well whole scope_in =
       bits_are = refl;
       facts = omega (arith, whole.facts, scope_in.facts);
       bits = scope_in.bits;
-       points = λ points lie asked. omega (arith, scope_in.points points lie asked, well.size.limits.points);
-       few = omega (arith, whole.facts, few);
+      points = λ points lie asked. omega (arith, scope_in.points points lie asked, well.size.limits.points);
+      few = omega (arith, whole.facts, few);
     }
 
 -- where there is code of the own condition of points, the reading of that condition goes on from there: it gives whether they may be moved, and asks nothing

@@ -1,17 +1,13 @@
 -- What the levels of a body still have to do.
 use Rattle.std.specs.Prelude.{◌≡◌, ℕ, ◌+◌, ◌≤◌, true, List, [], ◌∷◌, length, map}
-use Rattle.std.specs.List.{concat, list_all}
+use Rattle.std.specs.List.{list_all}
 use Rattle.ssi_identities.specs.declared.rule.BodyItem.{BodyItem}
 use Rattle.ssi_identities.specs.Allowed.{BodyScope, greatest, is_part_within, part_depth}
-use Rattle.ssi_identities.specs.Codes.{IsShort, code_of_part}
+use Rattle.ssi_identities.specs.Codes.{IsShort, code_of_parts}
 use Rattle.ssi_identities.specs.DataSets.{Plan}
 use Rattle.ssi_identities.specs.States.{State}
 use Rattle.ssi_identities.specs.Steps.{body_of, effect_of}
 use Rattle.ssi_eval.specs.declared.frame.Frame.{Frame}
-
--- the code of some items of a body, one after another
-abbrev pub code_of_parts : List BodyItem → List ℕ
-code_of_parts parts = concat (map code_of_part parts)
 
 -- a level of a body, so many levels below the outermost, has these items left; no more than eight levels lie in one another
 pub record IsBodyLevel (scope : BodyScope) (below : ℕ) (code : List ℕ) (parts : List BodyItem) : Type 0 where

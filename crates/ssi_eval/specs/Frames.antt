@@ -1,21 +1,13 @@
 -- What the levels that are being read still have to read, and the value that they give.
 use Rattle.std.specs.Prelude.{◌≡◌, ℕ, ◌+◌, ◌<◌, ◌≤◌, ◌^◌, Bool, true, ◌&&◌, ◌||◌, List, [], ◌∷◌, ◌++◌, length, map, reverse}
-use Rattle.std.specs.List.{concat, list_all, list_any, sum_by}
+use Rattle.std.specs.List.{list_all, list_any, sum_by}
 use Rattle.ssi_identities.specs.declared.rule.CondItem.{CondItem}
 use Rattle.ssi_identities.specs.declared.rule.Cond.{Cond}
 use Rattle.ssi_identities.specs.Allowed.{CondScope, greatest, is_item_within, is_within, item_depth, cond_depth}
-use Rattle.ssi_identities.specs.Codes.{IsShort, code_of_cond, code_of_item, with_length}
+use Rattle.ssi_identities.specs.Codes.{IsShort, code_of_alternatives, code_of_items}
 use Rattle.ssi_identities.specs.States.{State, fact_total_of}
 use Rattle.ssi_identities.specs.Values.{Scene, bit_of, holds_in, item_holds}
 use Rattle.ssi_eval.specs.declared.frame.Frame.{Frame}
-
--- the code of some items, one after another
-abbrev pub code_of_items : List CondItem → List ℕ
-code_of_items items = concat (map code_of_item items)
-
--- the code of some alternatives, each with its length
-abbrev pub code_of_others : List Cond → List ℕ
-code_of_others others = concat (map with_length (map code_of_cond others))
 
 -- how many bytes a level has left
 abbrev pub bytes_left : Frame → ℕ
@@ -28,9 +20,9 @@ bytes_in level stack = bytes_left level + sum_by bytes_left stack
 -- a level, so many levels below the outermost, has these items and alternatives left; no more than eight levels lie in one another
 pub record IsLevel (scope : CondScope) (below : ℕ) (frame : Frame) (items : List CondItem) (others : List Cond) : Type 0 where
   pub items_are : frame.items.now ≡ code_of_items items
-  pub others_are : frame.others.now ≡ code_of_others others
+  pub others_are : frame.others.now ≡ code_of_alternatives others
   pub items_short : IsShort (code_of_items items)
-  pub others_short : IsShort (code_of_others others)
+  pub others_short : IsShort (code_of_alternatives others)
   pub items_within : list_all (is_item_within scope) items ≡ true
   pub others_within : list_all (is_within scope) others ≡ true
   pub items_depth : below + greatest (map item_depth items) ≤ 8

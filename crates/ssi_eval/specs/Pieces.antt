@@ -1,9 +1,9 @@
 -- Items and pieces at the front of some bytes.
 use Rattle.std.specs.Prelude.{◌≡◌, ℕ, List, ◌∷◌, ◌++◌}
 use Rattle.ssi_identities.specs.Codes.{IsShort, with_length}
-use Rattle.ssi_image.specs.declared.opcode.CondOp.{CondOp}
-use Rattle.ssi_image.specs.declared.opcode.BodyOp.{BodyOp}
-use Rattle.ssi_image.specs.Opcodes.{body_byte_of, cond_byte_of}
+use Rattle.ssi_identities.specs.declared.opcode.CondOp.{CondOp}
+use Rattle.ssi_identities.specs.declared.opcode.BodyOp.{BodyOp}
+use Rattle.ssi_identities.specs.Opcodes.{body_byte_of, cond_byte_of}
 
 -- the first byte begins an item of a condition
 pub record BeginsItem (bytes : List ℕ) : Type 0 where

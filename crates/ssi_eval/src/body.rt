@@ -16,7 +16,8 @@ ghost use Rattle.ssi_eval.specs.BodyCodes.{IsBodyCode, IsChoiceCode, IsSomeBodyC
 use crate::frame::{Frame, Stack, set_aside};
 use crate::free::value;
 use crate::read::{body_op, number, piece};
-use ssi_image::{BodyOp, Image};
+use ssi_identities::BodyOp;
+use ssi_image::Image;
 use ssi_state::State;
 
 /// The code of the branch that a choice's guard takes: nothing, where the guard doesn't hold and there is no

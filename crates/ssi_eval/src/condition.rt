@@ -11,7 +11,7 @@ ghost use Rattle.ssi_eval.specs.Turns.{ComesTo, Shrinks};
 
 use crate::frame::{Frame, Stack, set_aside};
 use crate::read::{cond_op, first, number, piece};
-use ssi_image::CondOp;
+use ssi_identities::CondOp;
 use ssi_state::State;
 
 /// An item of a condition, as it is read.

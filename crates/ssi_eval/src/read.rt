@@ -3,10 +3,10 @@
 ghost use Rattle.std.specs.Prelude.{◌≡◌, ℕ, List, ◌∷◌, ◌++◌, ◌<◌, ◌≤◌, ◌+◌, ◌^◌, length};
 ghost use Rattle.std.specs.Int.{w16, to_be_bytes};
 ghost use Rattle.ssi_identities.specs.Codes.{IsShort, with_length};
-ghost use Rattle.ssi_image.specs.Opcodes.{body_byte_of, cond_byte_of};
+ghost use Rattle.ssi_identities.specs.Opcodes.{body_byte_of, cond_byte_of};
 ghost use Rattle.ssi_eval.specs.Pieces.{BeginsItem, BeginsPart, BeginsPiece};
 
-use ssi_image::{BodyOp, CondOp};
+use ssi_identities::{BodyOp, CondOp};
 
 /// The first byte, and what follows it.
 pub fn first(bytes: &[u8]) -> (u8, &[u8])

@@ -10,10 +10,12 @@ use Rattle.ssi_identities.specs.declared.rule.Cond.{Cond, fold-Cond}
 use Rattle.ssi_identities.specs.declared.rule.CondItem.{CondItem, fold-CondItem}
 use Rattle.ssi_identities.specs.declared.rule.BodyItem.{BodyItem, fold-BodyItem}
 use Rattle.ssi_identities.specs.declared.rule.BodyItem.TheOpen.{BodyItem-F, Body-F}
-use Rattle.ssi_identities.specs.declared.rule.BodyItem.TheVariants.{Do}
+use Rattle.ssi_identities.specs.declared.rule.BodyItem.TheVariants.{Do, If}
 use Rattle.ssi_identities.specs.declared.rule.Body.{Body, fold-Body}
 use Rattle.ssi_identities.specs.Codes.{IsShort, code_of_cond, code_of_body}
+use Rattle.ssi_identities.specs.DataSets.{StmtPlan}
 use Rattle.ssi_identities.specs.Facts.{Fact, facts_of}
+use Rattle.ssi_identities.specs.Limits.{most_levels}
 use Rattle.ssi_identities.specs.Steps.{body_of}
 
 -- the facts that requests and statements may command: those that the interlocking decides
@@ -98,10 +100,10 @@ item_depth = fold-CondItem ℕ ℕ item_levels cond_levels
 abbrev pub cond_depth : Cond → ℕ
 cond_depth = fold-Cond ℕ ℕ item_levels cond_levels
 
--- a condition names only what its place allows, is eight groups deep at most, and its code has a length that four bytes tell
+-- a condition names only what its place allows, isn't too deep, and its code has a length that four bytes tell
 pub record IsWellCond (scope : CondScope) (cond : Cond) : Type 0 where
   pub within : is_within scope cond ≡ true
-  pub depth : cond_depth cond ≤ 8
+  pub depth : cond_depth cond ≤ most_levels
   pub short : IsShort (code_of_cond cond)
 
 -- ---- bodies
@@ -111,10 +113,10 @@ abbrev pub else_within : Option Bool → Bool
 else_within None = true
 else_within (Some within) = within
 
--- an item names what its place allows, where it is known which of its branches do; its guard is eight groups deep at most
+-- an item names what its place allows, where it is known which of its branches do, and its guard isn't too deep
 abbrev pub part_within : BodyScope → BodyItem-F Bool Bool → Bool
 part_within scope (BodyItem-F.Do command) = scope.may_command command.fact
-part_within scope (BodyItem-F.If guard then_within other) = is_within scope.guards guard && (nat_le (cond_depth guard) 8 && (then_within && else_within other))
+part_within scope (BodyItem-F.If guard then_within other) = is_within scope.guards guard && (nat_le (cond_depth guard) most_levels && (then_within && else_within other))
 
 -- a body has an item at least
 abbrev pub body_within : Body-F Bool Bool → Bool
@@ -149,12 +151,16 @@ part_depth = fold-BodyItem ℕ ℕ part_levels body_levels
 abbrev pub body_depth : Body → ℕ
 body_depth = fold-Body ℕ ℕ part_levels body_levels
 
--- a body names only what its place allows, is eight choices deep at most, and its code has a length that four bytes tell
+-- a body names only what its place allows, isn't too deep, and its code has a length that four bytes tell
 pub record IsWellBody (scope : BodyScope) (body : Body) : Type 0 where
   pub within : is_body_within scope body ≡ true
-  pub depth : body_depth body ≤ 8
+  pub depth : body_depth body ≤ most_levels
   pub short : IsShort (code_of_body body)
 
 -- commands as a body
 abbrev pub body_of_commands : List Cmd → Body
 body_of_commands commands = body_of (map (λ command. Do command) commands)
+
+-- a statement as a body: its commands act where its guard holds, and nothing else does anything
+abbrev pub body_of_statement : StmtPlan → Body
+body_of_statement row = body_of (If row.guard (body_of_commands row.commands) None ∷ [])

@@ -1,5 +1,5 @@
 -- The data set of a layout: its identities with their names, each list in written order, and how many there are.
-use Rattle.std.specs.Prelude.{ℕ, ◌≤◌, Bool, Option, List, [], map, length, slice_index_or}
+use Rattle.std.specs.Prelude.{ℕ, ◌≤◌, ◌==◌, Bool, Option, List, [], map, length, position, slice_index_or}
 use Rattle.ssi_identities.specs.declared.fact.Counts.{Counts}
 use Rattle.ssi_identities.specs.declared.fact.Kind.{Kind}
 use Rattle.ssi_identities.specs.declared.fact.Kind.TheVariants.{Points, Signal, Track, Route, Subroute, Flag, Request}
@@ -88,3 +88,7 @@ names_in plan Request = map (λ row. row.name) plan.requests
 -- the name of an identity; no bytes past the last of its kind
 abbrev pub name_of : Plan → Kind → ℕ → List ℕ
 name_of plan kind index = slice_index_or (names_in plan kind) index []
+
+-- the number of the module that has an address, if one has it
+abbrev pub module_with : Plan → ℕ → Option ℕ
+module_with plan address = position (λ row. row.address == address) plan.modules

@@ -6,16 +6,17 @@ use Rattle.ssi_identities.specs.declared.fact.Kind.{Kind}
 use Rattle.ssi_identities.specs.declared.fact.Kind.TheVariants.{Points, Signal, Track, Route, Subroute, Flag}
 use Rattle.ssi_identities.specs.declared.fact.FactKind.{FactKind}
 use Rattle.ssi_identities.specs.declared.fact.FactKind.TheVariants.{Reverse, DetectedNormal, DetectedReverse, Lamp, Occupied, RouteSet, RouteBarred, Locked, FlagSet}
+use Rattle.ssi_identities.specs.Limits.{most_points, most_signals, most_tracks, most_routes, most_subs, most_flags, most_requests}
 
 -- the limits of a layout
 pub record IsWithinLimits (counts : Counts) : Type 0 where
-  pub points : counts.points ≤ 126
-  pub signals : counts.signals ≤ 504
-  pub tracks : counts.tracks ≤ 504
-  pub routes : counts.routes ≤ 512
-  pub subs : counts.subs ≤ 1024
-  pub flags : counts.flags ≤ 512
-  pub requests : counts.requests ≤ 1024
+  pub points : counts.points ≤ most_points
+  pub signals : counts.signals ≤ most_signals
+  pub tracks : counts.tracks ≤ most_tracks
+  pub routes : counts.routes ≤ most_routes
+  pub subs : counts.subs ≤ most_subs
+  pub flags : counts.flags ≤ most_flags
+  pub requests : counts.requests ≤ most_requests
 
 -- the kind of identity that a fact is of
 abbrev pub identity_of : FactKind → Kind

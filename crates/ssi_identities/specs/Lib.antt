@@ -1,3 +1,4 @@
+pub mod Limits
 pub mod Facts
 pub mod Words
 pub mod NameLists
@@ -7,6 +8,7 @@ pub mod States
 pub mod Values
 pub mod Steps
 pub mod WorkedExamples
+pub mod Opcodes
 pub mod Codes
 pub mod Allowed
 pub mod Wells

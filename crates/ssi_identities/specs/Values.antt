@@ -1,5 +1,5 @@
 -- The value of a condition.
-use Rattle.std.specs.Prelude.{ℕ, ◌/◌, ◌%◌, ◌^◌, ◌==◌, nat_lt, Bool, false, not, ◌&&◌, ◌||◌, if◌then◌else◌, List, Option, Some, None, option_and_then, slice_get}
+use Rattle.std.specs.Prelude.{ℕ, ◌+◌, ◌*◌, ◌/◌, ◌%◌, ◌^◌, ◌==◌, nat_lt, Bool, false, not, ◌&&◌, ◌||◌, if◌then◌else◌, List, [], ◌∷◌, Option, Some, None, option_and_then, slice_get}
 use Rattle.std.specs.List.{list_all, list_any}
 use Rattle.ssi_identities.specs.declared.fact.FactKind.TheVariants.{Reverse}
 use Rattle.ssi_identities.specs.declared.rule.CondItem.{CondItem, fold-CondItem}
@@ -7,11 +7,17 @@ use Rattle.ssi_identities.specs.declared.rule.CondItem.TheOpen.{CondItem-F, Cond
 use Rattle.ssi_identities.specs.declared.rule.Cond.{Cond, fold-Cond}
 use Rattle.ssi_identities.specs.DataSets.{PointsPlan, Plan, counts_of}
 use Rattle.ssi_identities.specs.Facts.{fact_number_of}
+use Rattle.ssi_identities.specs.Limits.{bit_count}
 use Rattle.ssi_identities.specs.States.{State, truth_of}
 
 -- whether a bit of a report's byte is 1, bit 0 being the lowest; there are eight
 abbrev pub bit_of : ℕ → ℕ → Bool
-bit_of report bit = nat_lt bit 8 && (report / 2 ^ bit % 2 == 1)
+bit_of report bit = nat_lt bit bit_count && (report / 2 ^ bit % 2 == 1)
+
+-- the byte of some bits, the lowest first
+abbrev pub byte_of : List Bool → ℕ
+byte_of [] = 0
+byte_of (bit ∷ bits) = (if bit then 1 else 0) + 2 * byte_of bits
 
 -- what a condition looks at: a state, which bits of the report are 1, and which points are controlled or free to which lie (true for reverse)
 pub record Scene : Type 0 where

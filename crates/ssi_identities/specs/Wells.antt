@@ -11,6 +11,7 @@ use Rattle.ssi_identities.specs.Allowed.{is_decided, is_reported, is_number_of, 
 use Rattle.ssi_identities.specs.DataSets.{PointsPlan, RoutePlan, SubPlan, StmtPlan, ModulePlan, Plan, counts_of, names_in}
 use Rattle.ssi_identities.specs.Facts.{IsWithinLimits, fact_count_of}
 use Rattle.ssi_identities.specs.IdentityNames.{IsNameOf}
+use Rattle.ssi_identities.specs.Limits.{most_statements, most_modules, address_count, bit_count, most_tracks_of_points, most_subs_of_route, most_points_of_sub}
 use Rattle.ssi_identities.specs.Values.{move_condition_in}
 
 -- ---- what rules may name, said from the counts and from the conditions of points alone
@@ -37,15 +38,15 @@ scope_of_decisions plan = body_scope_with is_decided (counts_of plan) 0 plan.poi
 
 -- what the input of a module may name
 abbrev pub scope_of_inputs : Plan → BodyScope
-scope_of_inputs plan = body_scope_with is_reported (counts_of plan) 8 plan.points
+scope_of_inputs plan = body_scope_with is_reported (counts_of plan) bit_count plan.points
 
 -- ---- size and names
 
 -- no list of a data set is too long
 pub record IsSmall (plan : Plan) : Type 0 where
   pub limits : IsWithinLimits (counts_of plan)
-  pub few_statements : length plan.statements ≤ 4096
-  pub few_modules : length plan.modules ≤ 63
+  pub few_statements : length plan.statements ≤ most_statements
+  pub few_modules : length plan.modules ≤ most_modules
 
 -- the names of a kind are spelled as names of the kind, and differ
 pub record HasWellNames (plan : Plan) (kind : Kind) : Type 0 where
@@ -54,24 +55,24 @@ pub record HasWellNames (plan : Plan) (kind : Kind) : Type 0 where
 
 -- ---- layout
 
--- points lie over tracks that there are, one at least and four at most
+-- points lie over tracks that there are, one at least and not too many
 pub record IsWellPoints (counts : Counts) (row : PointsPlan) : Type 0 where
   pub tracks : All (λ track. track < counts.tracks) row.tracks
   pub some : 0 < length row.tracks
-  pub few : length row.tracks ≤ 4
+  pub few : length row.tracks ≤ most_tracks_of_points
 
--- a route begins at a signal that there is, and has sub-routes that there are, one at least and 32 at most
+-- a route begins at a signal that there is, and has sub-routes that there are, one at least and not too many
 pub record IsWellRoute (counts : Counts) (row : RoutePlan) : Type 0 where
   pub signal : row.signal < counts.signals
   pub subs : All (λ sub. sub < counts.subs) row.subs
   pub some : 0 < length row.subs
-  pub few : length row.subs ≤ 32
+  pub few : length row.subs ≤ most_subs_of_route
 
--- a sub-route is on a track that there is, and has points that there are, eight at most, and none of them twice
+-- a sub-route is on a track that there is, and has points that there are, not too many, and none of them twice
 pub record IsWellSub (counts : Counts) (row : SubPlan) : Type 0 where
   pub track : row.track < counts.tracks
   pub points : All (λ lie. lie.0 < counts.points) row.lies
-  pub few : length row.lies ≤ 8
+  pub few : length row.lies ≤ most_points_of_sub
   pub once : IsDistinct (λ a b. a == b) (map (λ lie. lie.0) row.lies)
 
 -- points, routes and sub-routes lie well
@@ -89,10 +90,10 @@ wired_kind kind = if kind == 0 then Points else if kind == 1 then Signal else Tr
 abbrev pub pin_count : ℕ → ℕ
 pin_count kind = if kind == 0 then 2 else 8
 
--- a module has an address from 1 to 63, one of three kinds, and the pins of its kind, which are wired to identities of its kind that there are
+-- a module has an address that isn't 0, one of three kinds, and the pins of its kind, which are wired to identities of its kind that there are
 pub record IsWellModule (plan : Plan) (row : ModulePlan) : Type 0 where
   pub some : 0 < row.address
-  pub few : row.address < 64
+  pub few : row.address < address_count
   pub kind : row.kind ≤ 2
   pub pins : length row.pins ≡ pin_count row.kind
   pub wired : All (λ pin. IfSome pin (λ identity. identity < length (names_in plan (wired_kind row.kind)))) row.pins
@@ -130,7 +131,7 @@ pub record IsWellStatement (scope : BodyScope) (row : StmtPlan) : Type 0 where
 
 -- the bits that are sent to a module are eight, each with a well condition or none
 pub record AreWellOutputs (scope : CondScope) (outputs : List (Option Cond)) : Type 0 where
-  pub eight : length outputs ≡ 8
+  pub eight : length outputs ≡ bit_count
   pub each : All (λ output. IfSome output (IsWellCond scope)) outputs
 
 -- the conditions of points, the requests, the statements, and the outputs and inputs of modules name only what their place allows

@@ -84,22 +84,22 @@ impl FactKind {
     }
 }
 
-/// How many identities of each kind there are.
+/// How many identities of each kind there are. The limits of a layout stand in [`crate::limits`].
 #[derive(Clone, Copy, Debug, PartialEq, Eq)]
 pub struct Counts {
-    /// Points, at most 126 in a layout.
+    /// Points.
     pub points: u16,
-    /// Signals, at most 504.
+    /// Signals.
     pub signals: u16,
-    /// Tracks, at most 504.
+    /// Tracks.
     pub tracks: u16,
-    /// Routes, at most 512.
+    /// Routes.
     pub routes: u16,
-    /// Sub-routes, at most 1,024.
+    /// Sub-routes.
     pub subs: u16,
-    /// Flags, at most 512.
+    /// Flags.
     pub flags: u16,
-    /// Requests, at most 1,024.
+    /// Requests.
     pub requests: u16,
 }
 

@@ -5,15 +5,17 @@
 //! their words ([`FactKind::word`]), on [`Names`], which number the names of each kind in the order of
 //! their first declaration, on the counts and names of a [`DataSet`], and on the state at the [`start`].
 //! The definitions of value, steps and effect stand here, with the laws that they go by
-//! ([`laws_of_values`], [`laws_of_effects`], [`laws_of_command_counts`], [`laws_of_steps`]). It stands on
+//! ([`laws_of_values`], [`laws_of_bits`], [`laws_of_effects`], [`laws_of_command_counts`], [`laws_of_steps`]). It stands on
 //! `ssi_base` for want of memory.
 #![tactic(auto)]
 
 mod data_set;
 mod fact;
+pub mod limits;
 mod meaning;
 mod name;
 mod names;
+mod opcode;
 mod place;
 mod rule;
 mod state;
@@ -30,11 +32,12 @@ pub use fact::{
     Counts, FactKind, Kind, fact_count, fact_number, fact_of, facts_in_order, one_fact,
 };
 pub use meaning::{
-    laws_of_command_counts, laws_of_effects, laws_of_steps, laws_of_values, worked_bits,
-    worked_bodies, worked_conditions, worked_groups, worked_points, worked_steps,
+    laws_of_bits, laws_of_command_counts, laws_of_effects, laws_of_steps, laws_of_values,
+    worked_bits, worked_bodies, worked_conditions, worked_groups, worked_points, worked_steps,
 };
 pub use name::Name;
 pub use names::{Added, Names};
+pub use opcode::{BodyOp, CondOp};
 pub use rule::{Body, BodyItem, Cmd, Cond, CondItem};
 pub use state::{laws_of_the_start, start};
 

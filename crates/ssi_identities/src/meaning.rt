@@ -1,6 +1,6 @@
 //! What conditions and bodies mean: the laws that bodies go by, and examples worked by hand.
 
-ghost use Rattle.std.specs.Prelude.{◌≡◌, ℕ, ◌+◌, Bool, true, false, if◌then◌else◌, List, [], ◌∷◌, ◌++◌, ◌*◌, ◌&&◌, ◌||◌, Some, None};
+ghost use Rattle.std.specs.Prelude.{◌≡◌, ℕ, ◌+◌, ◌<◌, ◌≤◌, ◌^◌, Bool, true, false, if◌then◌else◌, List, [], ◌∷◌, ◌++◌, ◌*◌, ◌&&◌, ◌||◌, Some, None, length, slice_index_or};
 ghost use Rattle.ssi_identities.specs.declared.rule.Cmd.{Cmd};
 ghost use Rattle.ssi_identities.specs.declared.rule.CondItem.{CondItem};
 ghost use Rattle.ssi_identities.specs.declared.rule.CondItem.TheVariants.{Lit, Bit, Free, Any};
@@ -10,7 +10,7 @@ ghost use Rattle.ssi_identities.specs.declared.rule.BodyItem.TheVariants.{Do, If
 ghost use Rattle.ssi_identities.specs.declared.rule.Body.{Body};
 ghost use Rattle.ssi_identities.specs.DataSets.{Plan};
 ghost use Rattle.ssi_identities.specs.States.{State, truth_of};
-ghost use Rattle.ssi_identities.specs.Values.{Scene, bit_of, cond_of, holds_in, is_as_wanted, is_free, item_holds, may_move, move_condition_of, move_scene, scene_of, value_of};
+ghost use Rattle.ssi_identities.specs.Values.{Scene, bit_of, byte_of, cond_of, holds_in, is_as_wanted, is_free, item_holds, may_move, move_condition_of, move_scene, scene_of, value_of};
 ghost use Rattle.ssi_identities.specs.Steps.{Valuation, act_of, after_steps, body_of, command_count_of, effect_of, item_command_count_of, item_effect_of, item_steps_from, obey, step_of, steps_from, steps_of};
 ghost use Rattle.ssi_identities.specs.WorkedExamples.{two_flags, one_is_set, nested_groups, no_alternative, bit_is, points_and_flag, points_are, free_to, flags, l1_is, l1_becomes, l2_becomes, step, l1_set_and_l2_not, no_fact_is_false, looks_at_what_it_set, undoes_its_guard, copies_l1, sets_then_resets, sets_no_fact, goes_on_after_a_choice};
 
@@ -41,6 +41,14 @@ pub fn laws_of_values()
         → may_move state report (Some cond) ≡ holds_in (move_scene state report) cond }
     ensures no_points_in_turn { (state : State) (report points : ℕ) (reverse : Bool)
         → item_holds (move_scene state report) (Free points reverse) ≡ false }
+{}
+
+/// The byte of eight bits has these bits, the lowest first; so any eight truth values are the bits of a
+/// report.
+pub fn laws_of_bits()
+    ensures bit { (bits : List Bool) (i : ℕ) → length bits ≤ 8
+        → bit_of (byte_of bits) i ≡ slice_index_or bits i false }
+    ensures byte { (bits : List Bool) → byte_of bits < 2 ^ length bits }
 {}
 
 /// The items of a body act one after another: a command gives its fact the value, and a choice acts as

@@ -9,6 +9,11 @@ ghost use Rattle.ssi_identities.specs.Wells.{AreWellOutputs, HasWellLayout, HasW
 
 use crate::data_set::{DataSet, PointsRow, RouteRow, Stmt, SubRow};
 use crate::fact::Counts;
+use crate::limits::{
+    BITS, MOST_FLAGS, MOST_MODULES, MOST_POINTS, MOST_POINTS_OF_SUB, MOST_REQUESTS, MOST_ROUTES,
+    MOST_SIGNALS, MOST_STATEMENTS, MOST_SUBS, MOST_SUBS_OF_ROUTE, MOST_TRACKS,
+    MOST_TRACKS_OF_POINTS,
+};
 use crate::place::{BodyPlace, CondPlace};
 use crate::rule::Cond;
 use crate::well_bodies::{are_well_commands, is_well_body, is_well_body_where_given};
@@ -38,15 +43,15 @@ impl DataSet {
 fn is_small(plan: &DataSet) -> bool
     ensures { IsTrue result ↔ IsSmall plan.now }
 {
-    plan.points.len() <= 126
-        && plan.signals.len() <= 504
-        && plan.tracks.len() <= 504
-        && plan.routes.len() <= 512
-        && plan.subs.len() <= 1024
-        && plan.flags.len() <= 512
-        && plan.requests.len() <= 1024
-        && plan.statements.len() <= 4096
-        && plan.modules.len() <= 63
+    plan.points.len() <= MOST_POINTS
+        && plan.signals.len() <= MOST_SIGNALS
+        && plan.tracks.len() <= MOST_TRACKS
+        && plan.routes.len() <= MOST_ROUTES
+        && plan.subs.len() <= MOST_SUBS
+        && plan.flags.len() <= MOST_FLAGS
+        && plan.requests.len() <= MOST_REQUESTS
+        && plan.statements.len() <= MOST_STATEMENTS
+        && plan.modules.len() <= MOST_MODULES
 }
 
 fn has_well_layout(plan: &DataSet) -> bool
@@ -63,7 +68,7 @@ fn is_well_points(counts: &Counts, row: &PointsRow) -> bool
     ensures { IsTrue result ↔ IsWellPoints counts.now row.now }
 {
     let tracks = row.tracks.as_slice();
-    if tracks.is_empty() || tracks.len() > 4 {
+    if tracks.is_empty() || tracks.len() > MOST_TRACKS_OF_POINTS {
         return false;
     }
     are_below(tracks, counts.tracks)
@@ -73,7 +78,7 @@ fn is_well_route(counts: &Counts, row: &RouteRow) -> bool
     ensures { IsTrue result ↔ IsWellRoute counts.now row.now }
 {
     let subs = row.subs.as_slice();
-    if subs.is_empty() || subs.len() > 32 {
+    if subs.is_empty() || subs.len() > MOST_SUBS_OF_ROUTE {
         return false;
     }
     row.signal < counts.signals && are_below(subs, counts.subs)
@@ -82,7 +87,7 @@ fn is_well_route(counts: &Counts, row: &RouteRow) -> bool
 fn is_well_sub(counts: &Counts, row: &SubRow) -> bool
     ensures { IsTrue result ↔ IsWellSub counts.now row.now }
 {
-    if row.track >= counts.tracks || row.lies.len() > 8 {
+    if row.track >= counts.tracks || row.lies.len() > MOST_POINTS_OF_SUB {
         return false;
     }
     are_of_points(row.lies.as_slice(), counts.points) && do_numbers_differ(row.lies.as_slice())
@@ -167,7 +172,7 @@ fn are_well_outputs(plan: &DataSet) -> bool
 fn are_well_bits(place: &CondPlace, outputs: &[Option<Cond>]) -> bool
     ensures { IsTrue result ↔ AreWellOutputs (cond_scope_of place.now) outputs.now }
 {
-    outputs.len() == 8
+    outputs.len() == usize::from(BITS)
         && outputs
             .iter()
             .all(|output| is_well_where_given(place, output))

@@ -8,15 +8,18 @@ ghost use Rattle.ssi_identities.specs.Codes.{code_of_body, code_of_part, else_co
 ghost use Rattle.ssi_identities.specs.Deciding.{body_scope_of, capped};
 
 use crate::fact::{FactKind, fact_count, fact_of};
+use crate::limits::MOST_LEVELS;
 use crate::place::{BodyPlace, CondPlace};
 use crate::rule::{Body, BodyItem, Cmd, Cond};
-use crate::well_conditions::{CODE_LIMIT, LEVELS, cond_size, is_cond_shallow, is_cond_within};
+use crate::well_conditions::{CODE_LIMIT, cond_size, is_cond_shallow, is_cond_within};
 
 /// Whether a body is well where it stands.
 pub fn is_well_body(place: &BodyPlace, body: &Body) -> bool
     ensures { IsTrue result ↔ IsWellBody (body_scope_of place.now) body.now }
 {
-    is_body_shallow(body, LEVELS) && is_body_within(place, body) && body_size(body) < CODE_LIMIT
+    is_body_shallow(body, MOST_LEVELS)
+        && is_body_within(place, body)
+        && body_size(body) < CODE_LIMIT
 }
 
 /// Whether there is no body, or one that is well where it stands.
@@ -113,7 +116,7 @@ fn is_part_within(place: &BodyPlace, item: &BodyItem) -> bool
             then_body,
             else_body,
         } => {
-            is_cond_shallow(guard, LEVELS)
+            is_cond_shallow(guard, MOST_LEVELS)
                 && is_cond_within(&place.guards, guard)
                 && is_body_within(place, then_body)
                 && is_else_within(place, else_body)

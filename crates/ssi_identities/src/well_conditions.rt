@@ -7,11 +7,9 @@ ghost use Rattle.ssi_identities.specs.Deciding.{capped, cond_scope_of};
 ghost use Rattle.ssi_identities.specs.Values.{move_condition_in};
 
 use crate::data_set::PointsRow;
+use crate::limits::MOST_LEVELS;
 use crate::place::CondPlace;
 use crate::rule::{Cond, CondItem};
-
-/// How many groups may lie in one another, and how many choices.
-pub const LEVELS: u8 = 8;
 
 /// How many bytes are too many for a code, since four bytes tell its length.
 pub const CODE_LIMIT: u64 = 1 << 32;
@@ -20,7 +18,9 @@ pub const CODE_LIMIT: u64 = 1 << 32;
 pub fn is_well_cond(place: &CondPlace, cond: &Cond) -> bool
     ensures { IsTrue result ↔ IsWellCond (cond_scope_of place.now) cond.now }
 {
-    is_cond_shallow(cond, LEVELS) && is_cond_within(place, cond) && cond_size(cond) < CODE_LIMIT
+    is_cond_shallow(cond, MOST_LEVELS)
+        && is_cond_within(place, cond)
+        && cond_size(cond) < CODE_LIMIT
 }
 
 /// Whether there is no condition, or one that is well where it stands.

@@ -7,6 +7,7 @@ ghost use Rattle.ssi_identities.specs.Deciding.{capped};
 ghost use Rattle.ssi_identities.specs.Wells.{IsWellModule, IsWiredOnce, is_wired_to, pin_count, pins_of_kind, wired_kind};
 
 use crate::data_set::{DataSet, ModuleRow};
+use crate::limits::ADDRESSES;
 use crate::well_numbers::do_numbers_differ;
 
 /// Whether each module is well.
@@ -19,7 +20,7 @@ pub fn are_well_modules(plan: &DataSet) -> bool
 fn is_well_module(plan: &DataSet, row: &ModuleRow) -> bool
     ensures { IsTrue result ↔ IsWellModule plan.now row.now }
 {
-    if row.address == 0 || row.address > 63 || row.kind > 2 {
+    if row.address == 0 || usize::from(row.address) >= ADDRESSES || row.kind > 2 {
         return false;
     }
     if row.pins.len() != pin_count(row.kind) {

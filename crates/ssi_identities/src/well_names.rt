@@ -11,6 +11,7 @@ ghost use Rattle.ssi_identities.specs.Wells.{HasWellNames};
 
 use crate::data_set::DataSet;
 use crate::fact::{Counts, Kind};
+use crate::limits::MOST_CHARACTERS;
 
 /// All kinds.
 const KINDS: [Kind; 7] = [
@@ -131,7 +132,7 @@ fn has_name_characters(name: &[u8]) -> bool
 fn is_name_of(kind: Kind, name: &[u8]) -> bool
     ensures { IsTrue result ↔ IsNameOf kind name.now }
 {
-    if name.len() < 2 || name.len() > 16 {
+    if name.len() < 2 || name.len() > MOST_CHARACTERS {
         return false;
     }
     name[0] == letter(kind) && has_name_characters(name)

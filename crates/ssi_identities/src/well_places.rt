@@ -8,6 +8,7 @@ ghost use Rattle.ssi_identities.specs.Wells.{scope_of_conds, scope_of_decisions,
 
 use crate::data_set::DataSet;
 use crate::fact::fact_count;
+use crate::limits::BITS;
 use crate::place::{BodyPlace, CondPlace};
 
 /// Where the conditions of points stand.
@@ -52,7 +53,7 @@ pub fn input_place(plan: &DataSet) -> BodyPlace<'_>
     ensures { body_scope_of result ≡ scope_of_inputs plan.now }
 {
     BodyPlace {
-        guards: cond_place(plan, 8),
+        guards: cond_place(plan, BITS),
         counts: plan.counts(),
         is_input: true,
     }

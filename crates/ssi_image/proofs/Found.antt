@@ -10,10 +10,10 @@ use Rattle.std.proofs.lemmas.List.Sums.{sum_by-append, sum_by-cons}
 use Rattle.std.proofs.lemmas.Option.{slice_get-map}
 use Rattle.ssi_identities.specs.declared.fact.Kind.{Kind}
 use Rattle.ssi_identities.specs.declared.fact.Kind.TheVariants.{Points, Signal, Track, Route, Subroute, Flag, Request}
-use Rattle.ssi_identities.specs.DataSets.{ModulePlan, Plan, PointsPlan, names_in}
+use Rattle.ssi_identities.specs.DataSets.{ModulePlan, Plan, PointsPlan, names_in, module_with}
 use Rattle.ssi_identities.specs.Wells.{IsWell, IsWellModule, is_wired_to, pins_of_kind, wired_kind}
 use Rattle.ssi_image.specs.Packed.{Packed, Wiring, packed_of, packed_points, wiring_of}
-use Rattle.ssi_image.specs.Places.{IsWiredTo, is_wired_kind, module_with}
+use Rattle.ssi_image.specs.Places.{IsWiredTo, is_wired_kind}
 use Rattle.ssi_image.specs.Tables.{IsWiredAt, ArePlaces, AreWires, AreTablesOf, TablesOf, wires_of}
 
 -- ---- addresses

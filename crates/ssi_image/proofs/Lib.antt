@@ -5,4 +5,3 @@ pub mod Tabling
 pub mod Pins
 pub mod Tabled
 pub mod Found
-pub mod OpcodeBytes

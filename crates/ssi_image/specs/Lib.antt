@@ -4,4 +4,3 @@ pub mod Shown
 pub mod OneCode
 pub mod OnePlan
 pub mod Tables
-pub mod Opcodes

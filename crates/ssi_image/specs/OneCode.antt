@@ -13,7 +13,7 @@ use Rattle.ssi_identities.specs.declared.rule.BodyItem.{BodyItem}
 use Rattle.ssi_identities.specs.declared.rule.BodyItem.TheVariants.{Do, If}
 use Rattle.ssi_identities.specs.declared.rule.Body.{Body}
 use Rattle.ssi_identities.specs.Allowed.{CondScope, BodyScope, item_within, cond_within, is_item_within, is_within, part_within, body_within, is_part_within, is_body_within, else_within}
-use Rattle.ssi_identities.specs.Codes.{IsShort, with_length, item_code, cond_code, code_of_item, code_of_cond, code_of_command, else_code, part_code, body_code, code_of_part, code_of_body}
+use Rattle.ssi_identities.specs.Codes.{IsShort, with_length, item_code, cond_code, code_of_item, code_of_items, code_of_cond, code_of_alternatives, code_of_command, else_code, part_code, body_code, code_of_part, code_of_parts, code_of_body}
 use Rattle.ssi_identities.proofs.Conditions.{lit_is, bit_is, free_is, any_is, cond_is, cond_item_cases}
 use Rattle.ssi_identities.proofs.Bodies.{do_is, if_is, body_is, body_item_cases}
 
@@ -68,12 +68,6 @@ and_second false b e = absurd cc
 
 -- ---- conditions
 
-abbrev code_of_items : List CondItem → List ℕ
-code_of_items items = concat (map code_of_item items)
-
-abbrev code_of_group : List Cond → List ℕ
-code_of_group conds = concat (map with_length (map code_of_cond conds))
-
 abbrev items_within : CondScope → List CondItem → Bool
 items_within scope items = list_all (λ within. within) (map (is_item_within scope) items)
 
@@ -96,7 +90,7 @@ bit_coded bit wanted = record { is = bit_is (List ℕ) (List ℕ) item_code cond
 free_coded : (points : ℕ) (reverse : Bool) → IsCoded (Free points reverse) (pick reverse 0x15 0x14) (to_be_bytes w16 points)
 free_coded points reverse = record { is = free_is (List ℕ) (List ℕ) item_code cond_code points reverse }
 
-any_coded : (conds : List Cond) → IsCoded (Any conds) 0x16 (with_length (code_of_group conds))
+any_coded : (conds : List Cond) → IsCoded (Any conds) 0x16 (with_length (code_of_alternatives conds))
 any_coded conds = record { is = any_is (List ℕ) (List ℕ) item_code cond_code conds }
 
 same_head : (i j : CondItem) (b d : ℕ) (s t x y : List ℕ) → IsCoded i b s → IsCoded j d t → code_of_item i ++ x ≡ code_of_item j ++ y → (b ≡ d) × (s ++ x ≡ t ++ y)
@@ -120,7 +114,7 @@ apart false false a b c d p q r s e = s e
 module _ (s t : CondScope) (ns : IsNumbered s) (nt : IsNumbered t) where
   -- lists of alternatives no longer than so are one where their code is
   abbrev GroupsSame : ℕ → Type 0
-  GroupsSame n = (cs ds : List Cond) → conds_within s cs ≡ true → conds_within t ds ≡ true → length (code_of_group cs) ≤ n → IsShort (code_of_group cs) → code_of_group cs ≡ code_of_group ds → cs ≡ ds
+  GroupsSame n = (cs ds : List Cond) → conds_within s cs ≡ true → conds_within t ds ≡ true → length (code_of_alternatives cs) ≤ n → IsShort (code_of_alternatives cs) → code_of_alternatives cs ≡ code_of_alternatives ds → cs ≡ ds
 
   abbrev ItemsSame : ℕ → Type 0
   ItemsSame n = (xs ys : List CondItem) → items_within s xs ≡ true → items_within t ys ≡ true → length (code_of_items xs) ≤ n → IsShort (code_of_items xs) → code_of_items xs ≡ code_of_items ys → xs ≡ ys
@@ -178,9 +172,9 @@ module _ (s t : CondScope) (ns : IsNumbered s) (nt : IsNumbered t) where
       let h = same_head (Any conds) (Any cs) _ _ _ _ x y (any_coded conds) (any_coded cs) e in
       let mine = ap length (any_coded conds).is in
       let other = ap length (any_coded cs).is in
-      let short_mine : IsShort (code_of_group conds) = omega arith in
-      let short_other : IsShort (code_of_group cs) = omega arith in
-      let k = piece_same (code_of_group conds) (code_of_group cs) x y short_mine short_other h.1 in
+      let short_mine : IsShort (code_of_alternatives conds) = omega arith in
+      let short_other : IsShort (code_of_alternatives cs) = omega arith in
+      let k = piece_same (code_of_alternatives conds) (code_of_alternatives cs) x y short_mine short_other h.1 in
       let inside = and_second (nat_le 2 (length (map (is_within s) conds))) (conds_within s conds) (sym (any_is Bool Bool (item_within s) cond_within conds) ∙ ws) in
       let other_inside = and_second (nat_le 2 (length (map (is_within t) cs))) (conds_within t cs) (sym (any_is Bool Bool (item_within t) cond_within cs) ∙ wt) in
       (ap Any (groups conds cs inside other_inside (omega arith) short_mine k.0), k.1))
@@ -213,9 +207,9 @@ module _ (s t : CondScope) (ns : IsNumbered s) (nt : IsNumbered t) where
   nothing_left [] e = refl
   nothing_left (y ∷ ys) e = absurd (omega (arith, ap length e, item_is_long y, length-append (code_of_item y) (code_of_items ys)))
 
-  no_group_left : (ds : List Cond) → [] ≡ code_of_group ds → [] ≡ ds
+  no_group_left : (ds : List Cond) → [] ≡ code_of_alternatives ds → [] ≡ ds
   no_group_left [] e = refl
-  no_group_left (d ∷ ds) e = absurd (omega (arith, ap length e, length-append (with_length (code_of_cond d)) (code_of_group ds)))
+  no_group_left (d ∷ ds) e = absurd (omega (arith, ap length e, length-append (with_length (code_of_cond d)) (code_of_alternatives ds)))
 
   items_from : (n : ℕ) → GroupsSame s t ns nt n → ItemsSame s t ns nt n → ItemsSame s t ns nt (suc n)
   items_from n groups items [] ys ws wt l short e = nothing_left ys e
@@ -231,13 +225,13 @@ module _ (s t : CondScope) (ns : IsNumbered s) (nt : IsNumbered t) where
 
   groups_from : (n : ℕ) → GroupsSame s t ns nt n → ItemsSame s t ns nt n → GroupsSame s t ns nt (suc n)
   groups_from n groups items [] ds ws wt l short e = no_group_left ds e
-  groups_from n groups items (c ∷ cs) [] ws wt l short e = absurd (omega (arith, ap length e, length-append (with_length (code_of_cond c)) (code_of_group cs)))
+  groups_from n groups items (c ∷ cs) [] ws wt l short e = absurd (omega (arith, ap length e, length-append (with_length (code_of_cond c)) (code_of_alternatives cs)))
   groups_from n groups items (c ∷ cs) (d ∷ ds) ws wt l short e =
-      let long = length-append (with_length (code_of_cond c)) (code_of_group cs) in
-      let other = length-append (with_length (code_of_cond d)) (code_of_group ds) in
+      let long = length-append (with_length (code_of_cond c)) (code_of_alternatives cs) in
+      let other = length-append (with_length (code_of_cond d)) (code_of_alternatives ds) in
       let same_long = ap length e in
       let mine = ap length (cond_as_items c) in
-      let h = piece_same (code_of_cond c) (code_of_cond d) (code_of_group cs) (code_of_group ds) (omega arith) (omega arith) e in
+      let h = piece_same (code_of_cond c) (code_of_cond d) (code_of_alternatives cs) (code_of_alternatives ds) (omega arith) (omega arith) e in
       let wc = within_as_items s c (and_first (is_within s c) (conds_within s cs) ws) in
       let wd = within_as_items t d (and_first (is_within t d) (conds_within t ds) wt) in
       let i : c.items ≡ d.items = items c.items d.items wc wd (omega arith) (omega arith) (sym (cond_as_items c) ∙ h.0 ∙ cond_as_items d) in
@@ -250,7 +244,7 @@ module _ (s t : CondScope) (ns : IsNumbered s) (nt : IsNumbered t) where
 
   groups_none : GroupsSame s t ns nt 0
   groups_none [] ds ws wt l short e = no_group_left ds e
-  groups_none (c ∷ cs) ds ws wt l short e = absurd (omega (arith, length-append (with_length (code_of_cond c)) (code_of_group cs)))
+  groups_none (c ∷ cs) ds ws wt l short e = absurd (omega (arith, length-append (with_length (code_of_cond c)) (code_of_alternatives cs)))
 
   both_same : (n : ℕ) → ItemsSame s t ns nt n × GroupsSame s t ns nt n
   both_same zero = (items_none, groups_none)
@@ -263,9 +257,6 @@ module _ (s t : CondScope) (ns : IsNumbered s) (nt : IsNumbered t) where
       cond_by_items c d ((both_same (length (code_of_items c.items))).0 c.items d.items (within_as_items s c ws) (within_as_items t d wt) (omega arith) (omega arith) (sym (cond_as_items c) ∙ e ∙ cond_as_items d))
 
 -- ---- bodies
-
-abbrev code_of_parts : List BodyItem → List ℕ
-code_of_parts items = concat (map code_of_part items)
 
 abbrev parts_within : BodyScope → List BodyItem → Bool
 parts_within scope items = list_all (λ within. within) (map (is_part_within scope) items)

@@ -1,13 +1,11 @@
 -- Where conditions and bodies of a data set stand, and how its modules are found.
-use Rattle.std.specs.Prelude.{◌≡◌, ℕ, ◌==◌, Bool, true, false, List, [], ◌∷◌, Option, Some, None, option_map, option_and_then, position, slice_get}
+use Rattle.std.specs.Prelude.{◌≡◌, ℕ, Bool, true, false, Option, Some, option_map, option_and_then, slice_get}
 use Rattle.ssi_identities.specs.declared.fact.Kind.{Kind}
 use Rattle.ssi_identities.specs.declared.fact.Kind.TheVariants.{Points, Signal, Track}
 use Rattle.ssi_identities.specs.declared.rule.Body.{Body}
-use Rattle.ssi_identities.specs.declared.rule.BodyItem.TheVariants.{If}
 use Rattle.ssi_identities.specs.declared.rule.Cond.{Cond}
-use Rattle.ssi_identities.specs.Allowed.{body_of_commands}
-use Rattle.ssi_identities.specs.DataSets.{StmtPlan, ModulePlan, Plan}
-use Rattle.ssi_identities.specs.Steps.{body_of}
+use Rattle.ssi_identities.specs.Allowed.{body_of_statement}
+use Rattle.ssi_identities.specs.DataSets.{ModulePlan, Plan}
 use Rattle.ssi_identities.specs.Values.{move_condition_of}
 use Rattle.ssi_identities.specs.Wells.{wired_kind}
 use Rattle.ssi_image.specs.declared.places.CondAt.{CondAt}
@@ -28,19 +26,11 @@ abbrev pub cond_at : Plan → CondAt → Option Cond
 cond_at plan (Output number bit) = output_of plan number bit
 cond_at plan (Free points reverse) = move_condition_of plan points reverse
 
--- a statement as a body: its commands act where its guard holds, and nothing else does anything
-abbrev pub body_of_statement : StmtPlan → Body
-body_of_statement row = body_of (If row.guard (body_of_commands row.commands) None ∷ [])
-
 -- the body at a place, if there is one
 abbrev pub body_at : Plan → BodyAt → Option Body
 body_at plan (Request request) = option_map (λ row. row.body) (slice_get plan.requests request)
 body_at plan (Statement statement) = option_map body_of_statement (slice_get plan.statements statement)
 body_at plan (Input number) = input_of plan number
-
--- the number of the module that has an address, if one has it
-abbrev pub module_with : Plan → ℕ → Option ℕ
-module_with plan address = position (λ row. row.address == address) plan.modules
 
 -- what a pin of a module is wired to, if it is
 abbrev pub pin_of : Plan → ℕ → ℕ → Option ℕ

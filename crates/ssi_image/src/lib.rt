@@ -8,7 +8,6 @@
 mod assembly;
 mod image;
 mod names;
-mod opcode;
 mod packed;
 mod pieces;
 mod places;
@@ -17,5 +16,4 @@ mod tables;
 mod wiring;
 
 pub use image::Image;
-pub use opcode::{BodyOp, CondOp};
 pub use places::{BodyAt, CondAt};

@@ -1,8 +1,8 @@
 //! Which module has an address, and what an identity is wired to.
 
 ghost use Rattle.std.specs.Prelude.{◌≡◌, ◌<◌, true, length};
-ghost use Rattle.ssi_identities.specs.DataSets.{names_in};
-ghost use Rattle.ssi_image.specs.Places.{IsWiredTo, is_wired_kind, module_with};
+ghost use Rattle.ssi_identities.specs.DataSets.{names_in, module_with};
+ghost use Rattle.ssi_image.specs.Places.{IsWiredTo, is_wired_kind};
 
 use crate::image::Image;
 use ssi_identities::Kind;

@@ -1,6 +1,7 @@
 -- How the code finds the tokens of a text, from the front to the end. This is no part of what a caller is told:
 -- no clause of a public call cites this file, and each says by the cutting of the text alone what it says.
 use Rattle.std.specs.Prelude.{◌≡◌, ℕ, zero, suc, ◌+◌, ◌<◌, ◌≤◌, ◌==◌, Bool, true, false, if◌then◌else◌, List, [], ◌∷◌, length, fold, Option, Some, None}
+use Rattle.ssi_lexer.specs.Limits.{text_limit}
 use Rattle.ssi_lexer.specs.declared.token.TokenKind.{TokenKind}
 use Rattle.ssi_lexer.specs.declared.token.TokenKind.TheVariants.{Name, Word, Number, Comma, Dot, Open, Close}
 use Rattle.ssi_lexer.specs.declared.token.Token.{Token}
@@ -164,7 +165,7 @@ pub record IsNoGap (byte : ℕ) : Type 0 where
 -- Tokens, lines and columns are no more than the bytes before, and with so many more these are within the longest text:
 -- so no place, number or start is too large for its type.
 pub record IsWithin (cursor : Cursor) (more : ℕ) : Type 0 where
-  pub start : cursor.start + more ≤ 2097152
+  pub start : cursor.start + more ≤ text_limit
   pub number : cursor.number ≤ cursor.start
   pub line : cursor.place.line ≤ cursor.start + 1
   pub column : cursor.place.column ≤ cursor.start + 1

@@ -6,6 +6,7 @@
 //! lists and repetitions of them too. It stands on `ssi_base` for places.
 #![tactic(auto)]
 
+mod limit;
 mod parts;
 mod scan;
 mod taking;
@@ -13,6 +14,7 @@ mod token;
 mod tokens;
 mod wanted;
 
+pub use limit::TEXT_LIMIT;
 pub use parts::{Entry, Part, entries, separated};
 pub use token::{BAD_CHARACTER, BAD_NUMBER, LONG_NAME, LexFault, TextEnd, Token, TokenKind};
 pub use tokens::{Tokens, one_cutting, tokens_stand};

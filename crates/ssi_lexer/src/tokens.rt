@@ -2,6 +2,7 @@
 
 ghost use Rattle.std.specs.Prelude.{◌≡◌, ℕ, ◌≤◌, List, length, All, IfSome};
 ghost use Rattle.ssi_lexer.specs.declared.token.TextEnd.{TextEnd as End};
+ghost use Rattle.ssi_lexer.specs.Limits.{text_limit};
 ghost use Rattle.ssi_lexer.specs.Lexemes.{Lexeme, AreTokens, IsLexeme, StandsIn};
 ghost use Rattle.ssi_lexer.specs.Readings.{first_of, first_text as text_of_first, answer_at, after_next, end_if, IsShort};
 ghost use Rattle.ssi_lexer.specs.Spelling.{place_of};
@@ -35,7 +36,7 @@ impl<'a> Tokens<'a> {
     /// The tokens from a byte of the text on, with line 1 and column 1 there.
     pub fn new(text: &'a [u8], start: usize) -> Tokens<'a>
         requires within { start ≤ length text.now }
-        requires short { length text.now ≤ 2097152 }
+        requires short { length text.now ≤ text_limit }
         ensures text { result.text ≡ text.now }
         ensures position { result.position ≡ start }
         ensures tokens { AreTokens text.now start result.left result.end }

@@ -2,6 +2,7 @@
 use Rattle.std.specs.Prelude.{ℕ, ◌<◌, ◌≤◌, List, length, All}
 use Rattle.ssi_identities.specs.declared.fact.Kind.{Kind}
 use Rattle.ssi_identities.specs.IdentityNames.{IsNameOf}
+use Rattle.ssi_lexer.specs.Limits.{text_limit}
 use Rattle.ssi_lexer.specs.Languages.{Listed}
 use Rattle.ssi_lexer.specs.Lexemes.{Lexeme}
 use Rattle.ssi_terms.specs.declared.tree.BodyTree.{BodyTree}
@@ -15,7 +16,7 @@ use Rattle.ssi_names.specs.SourceTexts.{SourceText}
 pub record IsSpelledByFew (X : Type 0) (spells : X → List Lexeme → Type 0) (x : X) : Type 0 where
   pub tokens : List Lexeme
   pub spelled : spells x tokens
-  pub few : length tokens ≤ 2097152
+  pub few : length tokens ≤ text_limit
 
 -- conditions, bodies and lists of commands that are spelled so
 abbrev pub IsSpelledCond : CondTree → Type 0

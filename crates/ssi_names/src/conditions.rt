@@ -17,12 +17,10 @@ use crate::text::{characters, small_number};
 use crate::words::{fact_by_word, is_of_inputs, is_of_moves, lie_by_word};
 use sqlite_items::Items;
 use ssi_base::OutOfMemory;
+use ssi_identities::limits::BITS;
 use ssi_identities::{Cond, CondItem, FactKind};
 use ssi_terms::{CondTree, ItemTree, Spot};
 use std::alloc::Global;
-
-/// How many bits a report has.
-const BITS: u8 = 8;
 
 /// The test of a name: points are controlled to a lie or free to go to it, or a fact has a value.
 fn test_by(

@@ -9,12 +9,12 @@ ghost use Rattle.ssi_names.specs.Occurrences.{in_order};
 ghost use Rattle.ssi_names.specs.Tables.{knows};
 
 use crate::fault::Fault;
-use crate::limits::{MOST_SUBS_IN_A_ROUTE, MOST_TRACKS_UNDER_POINTS};
 use crate::members::{lies, members, reference};
 use crate::named::Named;
 use crate::tables::Tables;
 use ssi_base::OutOfMemory;
 use ssi_identities::Kind;
+use ssi_identities::limits::{MOST_SUBS_OF_ROUTE, MOST_TRACKS_OF_POINTS};
 use ssi_terms::{PointsEntry, RouteEntry, Spot, SubEntry};
 use std::alloc::Global;
 
@@ -57,7 +57,7 @@ impl Declaration for PointsEntry {
         tables: &Tables,
         faults: &mut Vec<Fault>,
     ) -> Result<(), OutOfMemory> {
-        let (kind, limit) = (Kind::Track, MOST_TRACKS_UNDER_POINTS);
+        let (kind, limit) = (Kind::Track, MOST_TRACKS_OF_POINTS);
         let tracks = self.tracks.as_slice();
         members(alloc, text, tables, kind, limit, tracks, faults)
     }
@@ -76,7 +76,7 @@ impl Declaration for RouteEntry {
         faults: &mut Vec<Fault>,
     ) -> Result<(), OutOfMemory> {
         reference(text, tables, Kind::Signal, &self.signal, faults)?;
-        let (kind, limit) = (Kind::Subroute, MOST_SUBS_IN_A_ROUTE);
+        let (kind, limit) = (Kind::Subroute, MOST_SUBS_OF_ROUTE);
         let subs = self.subs.as_slice();
         members(alloc, text, tables, kind, limit, subs, faults)
     }

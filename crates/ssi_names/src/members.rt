@@ -12,12 +12,12 @@ ghost use Rattle.ssi_names.specs.Texts.{characters as characters_of};
 use crate::code::{POINTS_TWICE_IN_SUBROUTE, TOO_MANY, UNKNOWN};
 use crate::fault::{Fault, note};
 use crate::judge::{Judge, judge_all};
-use crate::limits::MOST_POINTS_IN_A_SUB;
 use crate::name_set::NameSet;
 use crate::tables::{Tables, is_known};
 use crate::text::characters;
 use ssi_base::OutOfMemory;
 use ssi_identities::Kind;
+use ssi_identities::limits::MOST_POINTS_OF_SUB;
 use ssi_terms::Spot;
 use std::alloc::Global;
 
@@ -110,7 +110,7 @@ impl<'a> Judge<(Spot, Spot)> for LieJudge<'a> {
         let name = characters(self.text, &entry.0);
         let unknown = !self.tables.points.contains(name);
         let again = self.seen.add(alloc, name)?;
-        let many = earlier.len() >= MOST_POINTS_IN_A_SUB;
+        let many = earlier.len() >= MOST_POINTS_OF_SUB;
         note(
             faults,
             &entry.0,

@@ -16,11 +16,9 @@ use crate::tables::{Tables, is_known};
 use crate::text::{characters, small_number};
 use ssi_base::OutOfMemory;
 use ssi_identities::Kind;
+use ssi_identities::limits::ADDRESSES;
 use ssi_terms::{ModuleEntry, Spot};
 use std::alloc::Global;
-
-/// One more than the largest address of a module. There is no address 0.
-const ADDRESSES: usize = 64;
 
 /// How many pins a module has at most, and how many bits are sent to it.
 pub const PINS: usize = 8;

@@ -1,6 +1,7 @@
 //! The data set of a text, or every fault of its names, words and numbers.
 
 ghost use Rattle.std.specs.Prelude.{◌≡◌, ◌≤◌, [], length};
+ghost use Rattle.ssi_lexer.specs.Limits.{text_limit};
 ghost use Rattle.ssi_names.specs.Answers.{IsAnswer};
 ghost use Rattle.ssi_names.specs.Formed.{IsFormed};
 ghost use Rattle.ssi_names.specs.Faults.{faults_of};
@@ -72,7 +73,7 @@ fn resolve_by(
 /// The data set of a text with this tree, or every fault of its names, words and numbers in written order.
 pub fn resolve(alloc: Global, text: &[u8], tree: &SourceTree) -> Result<DataSet, ResolveFault>
     requires spelled { IsSpelledIn text.now tree.now }
-    requires short { length text.now ≤ 2097152 }
+    requires short { length text.now ≤ text_limit }
     ensures { IsAnswer text.now tree.now result }
 {
     match tables_of(alloc, text, tree) {

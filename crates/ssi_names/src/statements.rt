@@ -11,12 +11,12 @@ use crate::bodies::commands;
 use crate::conditions::cond;
 use crate::fault::Fault;
 use crate::judge::{RuleJudge, judge_rules};
-use crate::limits::MOST_STATEMENTS;
 use crate::rule_file::RuleFile;
 use crate::scope::Scope;
 use ssi_base::OutOfMemory;
 use ssi_fop::StatementEntry;
 use ssi_identities::Stmt;
+use ssi_identities::limits::MOST_STATEMENTS;
 use std::alloc::Global;
 
 /// Judges statements.

@@ -10,14 +10,14 @@ ghost use Rattle.ssi_names.specs.Scopes.{AreLimited};
 ghost use Rattle.ssi_names.specs.Tables.{AreTablesOf, knows, no_tables, rules, table_of, tables_of_identities};
 ghost use Rattle.ssi_names.specs.Texts.{characters as characters_of};
 
-use crate::limits::{
-    MOST_FLAGS, MOST_POINTS, MOST_REQUESTS, MOST_ROUTES, MOST_SIGNALS, MOST_SUBS, MOST_TRACKS,
-};
 use crate::name_set::NameSet;
 use crate::named::Named;
 use crate::source::SourceTree;
 use crate::text::{characters, is_reverse};
 use ssi_base::OutOfMemory;
+use ssi_identities::limits::{
+    MOST_FLAGS, MOST_POINTS, MOST_REQUESTS, MOST_ROUTES, MOST_SIGNALS, MOST_SUBS, MOST_TRACKS,
+};
 use ssi_identities::{Counts, Kind};
 use ssi_terms::{CondTree, IdentityTree, ModuleEntry, Spot};
 use std::alloc::Global;

@@ -1,9 +1,8 @@
 -- The module with an address has a place on a full shelf.
 use Rattle.std.proofs.Common.{◌≡◌, ℕ, ◌<◌, ◌≤◌, Option, Some, None, ap, refl, sym, ◌∙◌, arith}
 use Rattle.std.specs.Prelude.{option_and_then, option_map, slice_get}
-use Rattle.ssi_identities.specs.DataSets.{Plan, ModulePlan}
+use Rattle.ssi_identities.specs.DataSets.{Plan, ModulePlan, module_with}
 use Rattle.ssi_identities.specs.Wells.{IsWell}
-use Rattle.ssi_image.specs.Places.{module_with}
 use Rattle.ssi_cycle.specs.Exchanges.{module_in}
 use Rattle.ssi_cycle.proofs.Modules.{IsModuleOf, module_found}
 

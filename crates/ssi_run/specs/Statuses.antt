@@ -1,5 +1,6 @@
 -- The statuses that the program ends with, the lines that it writes in place of a trace, and its limit.
 use Rattle.std.specs.Prelude.{ℕ, List, Result, Ok, Err, codes}
+use Rattle.ssi_lexer.specs.Limits.{text_limit}
 use Rattle.ssi_run.specs.declared.status.Status.{Status}
 use Rattle.ssi_run.specs.declared.status.Status.TheVariants.{Done, Faulty, NoShape, BadScript, PastLimit}
 use Rattle.ssi_run.specs.declared.status.Failure.{Failure}
@@ -24,9 +25,9 @@ abbrev pub number_after : Result Status Failure → ℕ
 number_after (Ok status) = number_of status
 number_after (Err failure) = failure_number failure
 
--- how many bytes the input has at most
+-- how many bytes the input has at most: as many as a text
 abbrev pub input_limit : ℕ
-input_limit = 2097152
+input_limit = text_limit
 
 -- what is written where the words have no known shape
 abbrev pub usage_line : List ℕ

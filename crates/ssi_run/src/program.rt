@@ -18,14 +18,11 @@ use crate::input::run_input;
 use crate::status::{Failure, Status, end_number, told};
 use crate::words::{Command, read_words};
 use ssi_base::{ReadAll, Sink, Source, read_all, write_all};
-use ssi_lexer::one_cutting;
+use ssi_lexer::{TEXT_LIMIT, one_cutting};
 use ssi_names::one_source_tree;
 use ssi_script::one_script;
 use ssi_trackside::Trackside;
 use std::alloc::Global;
-
-/// How many bytes the input has at most.
-const LIMIT: usize = 2_097_152;
 
 /// What is written where the words have no known shape.
 const USAGE: &[u8] = b"usage: ssi check | compile | run [--last n] | exec | yard n\n";
@@ -51,7 +48,7 @@ fn run<S: Source, K: Sink>(
     ensures source_goes_on { GoesOn (S.faults source.old) (S.faults source.new) }
     ensures sink_goes_on { GoesOn (K.faults sink.old) (K.faults sink.new) }
 {
-    match read_all(alloc, source, LIMIT) {
+    match read_all(alloc, source, TEXT_LIMIT) {
         Ok(input) => run_input(alloc, input.as_slice(), sink, shelf),
         Err(ReadAll::TooLarge) => told(write_all(sink, TOO_LARGE), Status::PastLimit),
         Err(ReadAll::Fault) => Err(Failure::Source),

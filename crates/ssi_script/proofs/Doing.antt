@@ -16,11 +16,10 @@ use Rattle.ssi_lexer.specs.Parsers.{Outcome}
 use Rattle.ssi_lexer.specs.Readings.{Reading}
 use Rattle.ssi_identities.specs.declared.data_set.RequestRow.{RequestRow}
 use Rattle.ssi_identities.specs.declared.fact.Kind.TheVariants.{Request}
-use Rattle.ssi_identities.specs.DataSets.{ModulePlan, Plan, names_in}
+use Rattle.ssi_identities.specs.DataSets.{ModulePlan, Plan, names_in, module_with}
 use Rattle.ssi_identities.specs.IdentityNames.{letter_of}
 use Rattle.ssi_identities.specs.NameLists.{number_of}
 use Rattle.ssi_identities.specs.Wells.{IsWell, is_wired_to, wired_kind}
-use Rattle.ssi_image.specs.Places.{module_with}
 use Rattle.ssi_cycle.specs.Exchanges.{module_in}
 use Rattle.ssi_script.specs.declared.step.EventWord.{EventWord}
 use Rattle.ssi_script.specs.declared.step.ModuleWord.{ModuleWord}

@@ -3,9 +3,8 @@ use Rattle.std.proofs.Common.{◌≡◌, ℕ, zero, suc, ◌<◌, ◌≤◌, Lis
 use Rattle.std.specs.Prelude.{option_map, option_and_then, slice_get}
 use Rattle.std.proofs.lemmas.List.{get_or-set_other, length-set}
 use Rattle.std.proofs.lemmas.List.Elements.{All-append, All-cons, All-head, All-nil, All-tail}
-use Rattle.ssi_identities.specs.DataSets.{Plan, ModulePlan}
+use Rattle.ssi_identities.specs.DataSets.{Plan, ModulePlan, module_with}
 use Rattle.ssi_identities.specs.Wells.{IsWell, IsWellModule}
-use Rattle.ssi_image.specs.Places.{module_with}
 use Rattle.ssi_cycle.specs.Exchanges.{module_in}
 use Rattle.ssi_cycle.proofs.Modules.{module_found}
 use Rattle.ssi_trackside.specs.Kinds.{points_kind}

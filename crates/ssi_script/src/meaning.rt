@@ -3,11 +3,10 @@
 ghost use Rattle.std.specs.Prelude.{◌≡◌, ◌<◌, ◌≤◌, ◌∷◌, [], length, take, Ok, Err};
 ghost use Rattle.std.specs.Str.{bytes_eq};
 ghost use Rattle.ssi_identities.specs.declared.fact.Kind.{Kind as Kinds};
-ghost use Rattle.ssi_identities.specs.DataSets.{ModulePlan, names_in};
+ghost use Rattle.ssi_identities.specs.DataSets.{ModulePlan, names_in, module_with};
 ghost use Rattle.ssi_identities.specs.IdentityNames.{letter_of};
 ghost use Rattle.ssi_identities.specs.NameLists.{names_of};
 ghost use Rattle.ssi_identities.specs.Wells.{IsWell, wired_kind as kind_wired};
-ghost use Rattle.ssi_image.specs.Places.{module_with};
 ghost use Rattle.ssi_lexer.specs.declared.token.Token.{Token as NameToken};
 ghost use Rattle.ssi_script.specs.Meanings as spec;
 ghost use Rattle.ssi_script.specs.Meanings.{most_cycles, with_found};

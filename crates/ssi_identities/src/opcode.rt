@@ -1,7 +1,7 @@
 //! What items of conditions and bodies begin with.
 
 ghost use Rattle.std.specs.Prelude.{◌≡◌};
-ghost use Rattle.ssi_image.specs.Opcodes.{body_byte_of, body_op_of, cond_byte_of, cond_op_of};
+ghost use Rattle.ssi_identities.specs.Opcodes.{body_byte_of, body_op_of, cond_byte_of, cond_op_of};
 
 /// What the first byte of a condition's item says: the kind of the item, and what is wanted.
 #[derive(Clone, Copy, Debug, PartialEq, Eq)]

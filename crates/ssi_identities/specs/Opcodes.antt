@@ -1,10 +1,10 @@
 -- The first bytes of items of conditions and bodies.
 use Rattle.std.specs.Prelude.{ℕ, ◌==◌, if◌then◌else◌, true, false, List, [], ◌∷◌, Option}
 use Rattle.std.specs.List.{find}
-use Rattle.ssi_image.specs.declared.opcode.CondOp.{CondOp}
-use Rattle.ssi_image.specs.declared.opcode.CondOp.TheVariants.{Fact, Bit, Free, Group}
-use Rattle.ssi_image.specs.declared.opcode.BodyOp.{BodyOp}
-use Rattle.ssi_image.specs.declared.opcode.BodyOp.TheVariants.{Set, If}
+use Rattle.ssi_identities.specs.declared.opcode.CondOp.{CondOp}
+use Rattle.ssi_identities.specs.declared.opcode.CondOp.TheVariants.{Fact, Bit, Free, Group}
+use Rattle.ssi_identities.specs.declared.opcode.BodyOp.{BodyOp}
+use Rattle.ssi_identities.specs.declared.opcode.BodyOp.TheVariants.{Set, If}
 
 -- the first byte of an item of a condition: a fact is false, is true; a bit is 0, is 1; points are free to normal, to reverse; a group
 abbrev pub cond_byte_of : CondOp → ℕ
