@@ -8,7 +8,7 @@ use Rattle.std.proofs.lemmas.Option.{get_or_from_slice_get, slice_get_within}
 use Rattle.ssi_identities.specs.declared.data_set.RequestRow.{RequestRow}
 use Rattle.ssi_identities.specs.declared.rule.Body.{Body}
 use Rattle.ssi_identities.specs.DataSets.{Plan, ModulePlan}
-use Rattle.ssi_image.specs.Places.{module_with}
+use Rattle.ssi_identities.specs.DataSets.{module_with}
 use Rattle.ssi_telegrams.specs.Telegram.{report_telegram_of}
 use Rattle.ssi_cycle.specs.Blocks.{IsDeedOf}
 use Rattle.ssi_cycle.specs.Blocks.IsBlockOf.{input, statement, request}

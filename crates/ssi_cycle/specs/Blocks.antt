@@ -3,7 +3,7 @@ use Rattle.std.specs.Prelude.{◌≡◌, ◌<◌, Contains, Some}
 use Rattle.ssi_identities.specs.declared.data_set.RequestRow.{RequestRow}
 use Rattle.ssi_identities.specs.declared.rule.Body.{Body}
 use Rattle.ssi_identities.specs.DataSets.{Plan, ModulePlan, StmtPlan}
-use Rattle.ssi_image.specs.Places.{body_of_statement}
+use Rattle.ssi_identities.specs.Allowed.{body_of_statement}
 use Rattle.ssi_cycle.specs.Deeds.{Deed}
 use Rattle.ssi_cycle.specs.Deeds.Deed.{Acts, Restricts}
 

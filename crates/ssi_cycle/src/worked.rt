@@ -3,7 +3,7 @@
 ghost use Rattle.std.specs.Prelude.{◌≡◌, ℕ, Bool, true, false, [], ◌∷◌, ◌++◌, map, replicate, Some, None};
 ghost use Rattle.std.specs.List.{flat_map, range_with_len};
 ghost use Rattle.ssi_identities.specs.States.{State};
-ghost use Rattle.ssi_image.specs.Places.{body_of_statement};
+ghost use Rattle.ssi_identities.specs.Allowed.{body_of_statement};
 ghost use Rattle.ssi_cycle.specs.Deeds.Deed.{Acts, Restricts};
 ghost use Rattle.ssi_cycle.specs.Moments.{moments_of};
 ghost use Rattle.ssi_identities.specs.Values.{byte_of};

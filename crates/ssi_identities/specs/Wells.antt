@@ -83,10 +83,17 @@ pub record HasWellLayout (plan : Plan) : Type 0 where
 
 -- ---- wiring
 
--- the kind of identity that a module of this kind is wired to, and how many pins it has
+-- the kind of identity that a module of this kind is wired to
 abbrev pub wired_kind : ℕ → Kind
 wired_kind kind = if kind == 0 then Points else if kind == 1 then Signal else Track
 
+-- the kind of the modules that identities of this kind are wired to: points, signals and tracks are
+abbrev pub wiring_kind : Kind → ℕ
+wiring_kind Points = 0
+wiring_kind Signal = 1
+wiring_kind _ = 2
+
+-- how many pins a module of this kind has
 abbrev pub pin_count : ℕ → ℕ
 pin_count kind = if kind == 0 then 2 else 8
 

@@ -1,41 +1,28 @@
 -- The modules and pins that the tables of an image find.
 use Rattle.std.proofs.Common.{◌≡◌, ◌≢◌, ℕ, zero, suc, ◌+◌, ◌<◌, ◌≤◌, Bool, true, false, not, List, [], ◌∷◌, ◌++◌, length, map, Option, Some, None, option_map, refl, ap, sym, subst, ◌∙◌, arith, cond}
 use Rattle.std.specs.Prelude.{◌==◌, if◌then◌else◌, All, get_or, position, slice_get}
-use Rattle.std.specs.List.{count_by, flat_map, prefix_len, position_or_len}
+use Rattle.std.specs.List.{count_by, flat_map, position_or_len}
 use Rattle.std.proofs.lemmas.Bool.Decides.{nat_tests}
 use Rattle.std.proofs.lemmas.Grind.{common_steps}
 use Rattle.std.proofs.lemmas.List.{length-map}
 use Rattle.std.proofs.lemmas.List.Elements.{All-head, All-tail}
 use Rattle.std.proofs.lemmas.List.Sums.{sum_by-append, sum_by-cons}
-use Rattle.std.proofs.lemmas.Option.{slice_get-map}
 use Rattle.ssi_identities.specs.declared.fact.Kind.{Kind}
 use Rattle.ssi_identities.specs.declared.fact.Kind.TheVariants.{Points, Signal, Track, Route, Subroute, Flag, Request}
 use Rattle.ssi_identities.specs.DataSets.{ModulePlan, Plan, PointsPlan, names_in, module_with}
-use Rattle.ssi_identities.specs.Wells.{IsWell, IsWellModule, is_wired_to, pins_of_kind, wired_kind}
-use Rattle.ssi_image.specs.Packed.{Packed, Wiring, packed_of, packed_points, wiring_of}
+use Rattle.ssi_identities.specs.Wells.{IsWell, IsWellModule, is_wired_to, wiring_kind, pins_of_kind, wired_kind}
 use Rattle.ssi_image.specs.Places.{IsWiredTo, is_wired_kind}
-use Rattle.ssi_image.specs.Tables.{IsWiredAt, ArePlaces, AreWires, AreTablesOf, TablesOf, wires_of}
+use Rattle.ssi_image.specs.Tables.{AreWires, AreTablesOf, TablesOf, wires_of}
 
 -- ---- addresses
-
-abbrev at : ℕ → Wiring → Bool
-at address row = row.address == address
 
 abbrev has : ℕ → ModulePlan → Bool
 has address row = row.address == address
 
-first_same : (address : ℕ) (rows : List ModulePlan) → position_or_len (at address) (map wiring_of rows) ≡ position_or_len (has address) rows
-first_same address [] = refl
-first_same address (row ∷ rows) = ap (λ n. cond (not (row.address == address)) (1 + n) 0) (first_same address rows)
-
-place_same : (address : ℕ) (rows : List ModulePlan) → position (at address) (map wiring_of rows) ≡ position (has address) rows
-place_same address rows = rw (first_same address rows, length-map rows wiring_of) refl
-
 -- the module that the table has at an address is the one that has it
-pub place_found : (plan shown : Plan) (packed : Packed) (tables : TablesOf) (address : ℕ) (place : Option ℕ) → packed ≡ packed_of plan → plan ≡ shown → AreTablesOf packed tables → address < 64
+pub place_found : (plan shown : Plan) (tables : TablesOf) (address : ℕ) (place : Option ℕ) → plan ≡ shown → AreTablesOf plan tables → address < 64
     → place ≡ get_or tables.places address None → place ≡ module_with shown address
-place_found plan shown packed tables address place is same are within here =
-    here ∙ are.places_are address within ∙ ap (λ (p : Packed). position (at address) p.modules) is ∙ place_same address plan.modules ∙ ap (λ (p : Plan). position (has address) p.modules) same
+place_found plan shown tables address place same are within here = here ∙ are.places_are address within ∙ ap (λ (p : Plan). module_with p address) same
 
 none_at : (plan : Plan) (address : ℕ) (rows : List ModulePlan) → All (IsWellModule plan) rows → 64 ≤ address → position_or_len (has address) rows ≡ length rows
 none_at plan address [] all past = refl
@@ -74,80 +61,71 @@ some_pin identity (Some wired ∷ pins) some = by_case (some_pin identity pins) 
 abbrev own_pins : ℕ → ModulePlan → List (Option ℕ)
 own_pins kind row = if row.kind == kind then row.pins else []
 
-later : (kind identity : ℕ) (row : Wiring) (rows : List Wiring) → (place : ℕ × ℕ) × IsWiredAt rows kind identity place → (place : ℕ × ℕ) × IsWiredAt (row ∷ rows) kind identity place
-later kind identity row rows found = ((suc found.0.0, found.0.1), record { row = found.1.row; row_is = found.1.row_is; kind_is = found.1.kind_is; pin_is = found.1.pin_is })
+-- some pin of these modules, with its module's number
+record IsSomewhere (kind identity : ℕ) (rows : List ModulePlan) : Type 0 where
+  number : ℕ
+  pin : ℕ
+  row : ModulePlan
+  row_is : slice_get rows number ≡ Some row
+  kind_is : row.kind ≡ kind
+  pin_is : slice_get row.pins pin ≡ Some (Some identity)
 
-some_place : (kind identity : ℕ) (rows : List ModulePlan) → 0 < count_by (is_wired_to identity) (flat_map (own_pins kind) rows) → (place : ℕ × ℕ) × IsWiredAt (map wiring_of rows) kind identity place
+later : (kind identity : ℕ) (row : ModulePlan) (rows : List ModulePlan) → IsSomewhere kind identity rows → IsSomewhere kind identity (row ∷ rows)
+later kind identity row rows found = record { number = suc found.number; pin = found.pin; row = found.row; row_is = found.row_is; kind_is = found.kind_is; pin_is = found.pin_is }
+
+some_place : (kind identity : ℕ) (rows : List ModulePlan) → 0 < count_by (is_wired_to identity) (flat_map (own_pins kind) rows) → IsSomewhere kind identity rows
 some_place kind identity [] some = absurd (omega arith)
 some_place kind identity (row ∷ rows) some = by_kind (some_place kind identity rows) (row.kind == kind) refl
   where
-    by_count : (0 < count_by (is_wired_to identity) (flat_map (own_pins kind) rows) → (place : ℕ × ℕ) × IsWiredAt (map wiring_of rows) kind identity place) → (b : Bool)
-        → (count_by (is_wired_to identity) row.pins == 0) ≡ b → row.kind ≡ kind → own_pins kind row ≡ row.pins → (place : ℕ × ℕ) × IsWiredAt (map wiring_of (row ∷ rows)) kind identity place
+    by_count : (0 < count_by (is_wired_to identity) (flat_map (own_pins kind) rows) → IsSomewhere kind identity rows) → (b : Bool)
+        → (count_by (is_wired_to identity) row.pins == 0) ≡ b → row.kind ≡ kind → own_pins kind row ≡ row.pins → IsSomewhere kind identity (row ∷ rows)
     by_count rest true e own pins =
         let more = count_more (is_wired_to identity) (own_pins kind row) (flat_map (own_pins kind) rows) in
         let none : count_by (is_wired_to identity) row.pins ≡ 0 = grind (arith, nat_tests) in
         let same = ap (count_by (is_wired_to identity)) pins in
-        later kind identity (wiring_of row) (map wiring_of rows) (rest (omega arith))
+        later kind identity row rows (rest (omega arith))
     by_count rest false e own pins =
         let found = some_pin identity row.pins (grind (arith, nat_tests)) in
-        ((0, found.0), record { row = wiring_of row; row_is = refl; kind_is = own; pin_is = found.1 })
+        record { number = 0; pin = found.0; row = row; row_is = refl; kind_is = own; pin_is = found.1 }
 
-    by_kind : (0 < count_by (is_wired_to identity) (flat_map (own_pins kind) rows) → (place : ℕ × ℕ) × IsWiredAt (map wiring_of rows) kind identity place) → (b : Bool) → (row.kind == kind) ≡ b
-        → (place : ℕ × ℕ) × IsWiredAt (map wiring_of (row ∷ rows)) kind identity place
+    by_kind : (0 < count_by (is_wired_to identity) (flat_map (own_pins kind) rows) → IsSomewhere kind identity rows) → (b : Bool) → (row.kind == kind) ≡ b → IsSomewhere kind identity (row ∷ rows)
     by_kind rest true e = by_count rest (count_by (is_wired_to identity) row.pins == 0) refl (grind (arith, nat_tests)) (rw e refl)
     by_kind rest false e =
         let none : own_pins kind row ≡ [] = rw e refl in
         let same = ap (λ ps. count_by (is_wired_to identity) (ps ++ flat_map (own_pins kind) rows)) none in
-        later kind identity (wiring_of row) (map wiring_of rows) (rest (omega arith))
-
-row_of : (rows : List ModulePlan) (n : ℕ) (wiring : Wiring) → slice_get (map wiring_of rows) n ≡ Some wiring → (row : ModulePlan) × (slice_get rows n ≡ Some row) × (wiring_of row ≡ wiring)
-row_of [] n wiring is = absurd cc
-row_of (row ∷ rows) zero wiring is = (row, refl, cc)
-row_of (row ∷ rows) (suc n) wiring is = row_of rows n wiring is
-
--- a wire of the table is one of the data set
-pub wire_is : (plan : Plan) (kind : ℕ) (identity : ℕ) (wire : ℕ × ℕ) → IsWiredAt (map wiring_of plan.modules) kind identity wire → IsWiredTo plan (wired_kind kind) identity wire.0 wire.1
-wire_is plan kind identity wire at =
-    let row = row_of plan.modules wire.0 at.row at.row_is in
-    record {
-      row = row.0;
-      row_is = row.1;
-      kind_is = ap wired_kind (ap (λ (w : Wiring). w.kind) row.2 ∙ at.kind_is);
-      pin_is = ap (λ (w : Wiring). slice_get w.pins wire.1) row.2 ∙ at.pin_is;
-    }
+        later kind identity row rows (rest (omega arith))
 
 -- what the table has of an identity is what it is wired to
 wire_found : (plan : Plan) (kind identity : ℕ) (table : List (ℕ × ℕ)) (wire : ℕ × ℕ) → IsWell plan → kind ≤ 2 → identity < length (names_in plan (wired_kind kind))
-    → AreWires (map wiring_of plan.modules) kind table → slice_get table identity ≡ Some wire → IsWiredTo plan (wired_kind kind) identity wire.0 wire.1
+    → AreWires plan kind table → slice_get table identity ≡ Some wire → IsWiredTo plan kind identity wire.0 wire.1
 wire_found plan kind identity table wire well known within are read =
     let once : count_by (is_wired_to identity) (pins_of_kind plan kind) ≡ 1 = well.wiring.wired kind known identity within in
     let some = some_place kind identity plan.modules (omega arith) in
-    wire_is plan kind identity wire (are identity some.0 wire read some.1)
+    are identity (some.number, some.pin) wire read (record { row = some.row; row_is = some.row_is; kind_is = some.kind_is; pin_is = some.pin_is })
 
-pub wire_of_kind : (plan shown : Plan) (packed : Packed) (tables : TablesOf) (kind : Kind) (identity : ℕ) (wire : ℕ × ℕ) → IsWell plan → packed ≡ packed_of plan → plan ≡ shown → AreTablesOf packed tables
-    → is_wired_kind kind ≡ true → identity < length (names_in plan kind) → slice_get (wires_of tables kind) identity ≡ Some wire → IsWiredTo shown kind identity wire.0 wire.1
-wire_of_kind plan shown packed tables kind identity wire well is same are known within read =
-    let modules : packed.modules ≡ map wiring_of plan.modules = ap (λ (p : Packed). p.modules) is in
-    let found = elim kind as (λ (k : Kind). is_wired_kind k ≡ true → identity < length (names_in plan k) → slice_get (wires_of tables k) identity ≡ Some wire → IsWiredTo plan k identity wire.0 wire.1) [
-      | Points ↦ (λ e w r. wire_found plan 0 identity tables.points wire well (omega arith) w (subst (λ (ms : List Wiring). AreWires ms 0 tables.points) modules are.points_are) r)
-      | Signal ↦ (λ e w r. wire_found plan 1 identity tables.signals wire well (omega arith) w (subst (λ (ms : List Wiring). AreWires ms 1 tables.signals) modules are.signals_are) r)
-      | Track ↦ (λ e w r. wire_found plan 2 identity tables.tracks wire well (omega arith) w (subst (λ (ms : List Wiring). AreWires ms 2 tables.tracks) modules are.tracks_are) r)
+pub wire_of_kind : (plan shown : Plan) (tables : TablesOf) (kind : Kind) (identity : ℕ) (wire : ℕ × ℕ) → IsWell plan → plan ≡ shown → AreTablesOf plan tables
+    → is_wired_kind kind ≡ true → identity < length (names_in plan kind) → slice_get (wires_of tables kind) identity ≡ Some wire → IsWiredTo shown (wiring_kind kind) identity wire.0 wire.1
+wire_of_kind plan shown tables kind identity wire well same are known within read =
+    let found = elim kind as (λ (k : Kind). is_wired_kind k ≡ true → identity < length (names_in plan k) → slice_get (wires_of tables k) identity ≡ Some wire → IsWiredTo plan (wiring_kind k) identity wire.0 wire.1) [
+      | Points ↦ (λ e w r. wire_found plan 0 identity tables.points wire well (omega arith) w are.points_are r)
+      | Signal ↦ (λ e w r. wire_found plan 1 identity tables.signals wire well (omega arith) w are.signals_are r)
+      | Track ↦ (λ e w r. wire_found plan 2 identity tables.tracks wire well (omega arith) w are.tracks_are r)
       | Route ↦ (λ e w r. absurd cc)
       | Subroute ↦ (λ e w r. absurd cc)
       | Flag ↦ (λ e w r. absurd cc)
       | Request ↦ (λ e w r. absurd cc)
     ]
     in
-    subst (λ (p : Plan). IsWiredTo p kind identity wire.0 wire.1) same (found known within read)
+    subst (λ (p : Plan). IsWiredTo p (wiring_kind kind) identity wire.0 wire.1) same (found known within read)
 
 -- and it is long enough
-pub table_long : (plan : Plan) (packed : Packed) (tables : TablesOf) (kind : Kind) (identity : ℕ) → packed ≡ packed_of plan → AreTablesOf packed tables → is_wired_kind kind ≡ true
+pub table_long : (plan : Plan) (tables : TablesOf) (kind : Kind) (identity : ℕ) → AreTablesOf plan tables → is_wired_kind kind ≡ true
     → identity < length (names_in plan kind) → identity < length (wires_of tables kind)
-table_long plan packed tables kind identity is are known within =
+table_long plan tables kind identity are known within =
     let found = elim kind as (λ (k : Kind). is_wired_kind k ≡ true → identity < length (names_in plan k) → identity < length (wires_of tables k)) [
-      | Points ↦ (λ e w. omega (arith, are.points_long, ap (λ (p : Packed). length p.points) is, length-map plan.points packed_points, length-map plan.points (λ (row : PointsPlan). row.name)))
-      | Signal ↦ (λ e w. omega (arith, are.signals_long, ap (λ (p : Packed). length p.signals) is))
-      | Track ↦ (λ e w. omega (arith, are.tracks_long, ap (λ (p : Packed). length p.tracks) is))
+      | Points ↦ (λ e w. omega (arith, are.points_long, length-map plan.points (λ (row : PointsPlan). row.name)))
+      | Signal ↦ (λ e w. omega (arith, are.signals_long))
+      | Track ↦ (λ e w. omega (arith, are.tracks_long))
       | Route ↦ (λ e w. absurd cc)
       | Subroute ↦ (λ e w. absurd cc)
       | Flag ↦ (λ e w. absurd cc)

@@ -7,7 +7,6 @@ use Rattle.ssi_identities.specs.declared.rule.Cond.{Cond}
 use Rattle.ssi_identities.specs.Allowed.{body_of_statement}
 use Rattle.ssi_identities.specs.DataSets.{ModulePlan, Plan}
 use Rattle.ssi_identities.specs.Values.{move_condition_of}
-use Rattle.ssi_identities.specs.Wells.{wired_kind}
 use Rattle.ssi_image.specs.declared.places.CondAt.{CondAt}
 use Rattle.ssi_image.specs.declared.places.CondAt.TheVariants.{Output, Free}
 use Rattle.ssi_image.specs.declared.places.BodyAt.{BodyAt}
@@ -36,11 +35,11 @@ body_at plan (Input number) = input_of plan number
 abbrev pub pin_of : Plan → ℕ → ℕ → Option ℕ
 pin_of plan number pin = option_and_then (λ row. option_and_then (λ wired. wired) (slice_get row.pins pin)) (slice_get plan.modules number)
 
--- an identity is wired to this pin of this module, which is one of its kind
-pub record IsWiredTo (plan : Plan) (kind : Kind) (identity number pin : ℕ) : Type 0 where
+-- an identity is wired to this pin of this module, which is of this kind
+pub record IsWiredTo (plan : Plan) (kind identity number pin : ℕ) : Type 0 where
   pub row : ModulePlan
   pub row_is : slice_get plan.modules number ≡ Some row
-  pub kind_is : wired_kind row.kind ≡ kind
+  pub kind_is : row.kind ≡ kind
   pub pin_is : slice_get row.pins pin ≡ Some (Some identity)
 
 -- the kinds of identities that are wired to modules

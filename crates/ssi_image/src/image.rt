@@ -35,7 +35,7 @@ impl Model for Image {
 
     ghost view = { λ image. image.of_plan.0 };
 
-    ghost invariant = { λ image. AreTablesOf image.rows image.tables };
+    ghost invariant = { λ image. AreTablesOf image.of_plan.0 image.tables };
 }
 
 impl Image {

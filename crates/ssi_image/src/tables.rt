@@ -1,12 +1,15 @@
 //! Tables by which modules are found, by their address and by what is wired to them.
 
-ghost use Rattle.std.specs.Prelude.{◌≡◌, ◌<◌, ◌≤◌, ◌+◌, Some, None, List, length, slice_get, slice_index_or, slice_set, unwrap_or, All, IfOk};
-ghost use Rattle.ssi_image.specs.Packed.{Wiring as Wired};
+ghost use Rattle.std.specs.Prelude.{◌≡◌, ◌<◌, ◌≤◌, ◌+◌, Some, None, length, map, slice_get, slice_index_or, slice_set, unwrap_or, All, IfOk};
+ghost use Rattle.ssi_identities.specs.DataSets.{ModulePlan, Plan};
+ghost use Rattle.ssi_identities.specs.Limits.{address_count, most_modules, most_points, most_signals, most_tracks};
+ghost use Rattle.ssi_image.specs.Packed.{packed_of, wiring_of};
 ghost use Rattle.ssi_image.specs.Tables.{ArePlaces, AreTablesOf, AreWires, AreWiresBefore, noted};
 
 use crate::packed::{Rows, Wiring};
 use ssi_base::OutOfMemory;
 use ssi_identities::Kind;
+use ssi_identities::limits::ADDRESSES;
 use std::alloc::Global;
 use std::marker::Model;
 
@@ -46,9 +49,6 @@ impl Tables {
     }
 }
 
-/// How many addresses there are, 0 among them.
-const ADDRESSES: usize = 64;
-
 /// Notes the number of a module at its address, unless an earlier module has it.
 fn note_place(table: &mut Vec<Option<u8>>, address: u8, number: u8)
     requires { address < length table.old.items }
@@ -60,10 +60,10 @@ fn note_place(table: &mut Vec<Option<u8>>, address: u8, number: u8)
 
 /// The numbers of modules by their addresses.
 fn places(alloc: Global, modules: &[Wiring]) -> Result<Vec<Option<u8>>, OutOfMemory>
-    requires small { All (λ row. row.address < 64) modules.now }
-    requires few { length modules.now ≤ 63 }
-    ensures long { IfOk result (λ table. length table.items ≡ 64) }
-    ensures places { IfOk result (λ table. ArePlaces modules.now table.items) }
+    requires small { All (λ row. row.address < address_count) modules.now }
+    requires few { length modules.now ≤ most_modules }
+    ensures long { IfOk result (λ table. length table.items ≡ address_count) }
+    ensures places { IfOk result (λ table. (plan : Plan) → modules.now ≡ map wiring_of plan.modules → ArePlaces plan table.items) }
 {
     let mut table = vec![in alloc; None; ADDRESSES]?;
     for (number, row) in modules.iter().enumerate() {
@@ -88,8 +88,8 @@ fn note_wire(table: &mut Vec<(u8, u8)>, wired: Option<u16>, number: u8, pin: u8)
 fn note_module(table: &mut Vec<(u8, u8)>, row: &Wiring, kind: u8, number: u8)
     requires few { length row.now.pins ≤ 8 }
     ensures same { length table.new.items ≡ length table.old.items }
-    ensures wires { (modules : List Wired) → slice_get modules number ≡ Some row.now → AreWiresBefore modules kind number 0 table.old.items
-        → AreWiresBefore modules kind (number + 1) 0 table.new.items }
+    ensures wires { (plan : Plan) (wired : ModulePlan) → slice_get plan.modules number ≡ Some wired → wiring_of wired ≡ row.now
+        → AreWiresBefore plan kind number 0 table.old.items → AreWiresBefore plan kind (number + 1) 0 table.new.items }
 {
     if row.kind != kind {
         return;
@@ -107,9 +107,9 @@ fn wires(
     count: u16,
 ) -> Result<Vec<(u8, u8)>, OutOfMemory>
     requires pins { All (λ row. length row.pins ≤ 8) modules.now }
-    requires few { length modules.now ≤ 63 }
+    requires few { length modules.now ≤ most_modules }
     ensures long { IfOk result (λ table. length table.items ≡ count) }
-    ensures wires { IfOk result (λ table. AreWires modules.now kind table.items) }
+    ensures wires { IfOk result (λ table. (plan : Plan) → modules.now ≡ map wiring_of plan.modules → AreWires plan kind table.items) }
 {
     let mut table = vec![in alloc; (0, 0); usize::from(count)]?;
     for (number, row) in modules.iter().enumerate() {
@@ -120,13 +120,13 @@ fn wires(
 
 /// The tables of the rows of an image.
 pub fn tables_of(alloc: Global, rows: &Rows) -> Result<Tables, OutOfMemory>
-    requires small { All (λ row. row.address < 64) rows.now.modules }
+    requires small { All (λ row. row.address < address_count) rows.now.modules }
     requires pins { All (λ row. length row.pins ≤ 8) rows.now.modules }
-    requires few { length rows.now.modules ≤ 63 }
-    requires points { length rows.now.points ≤ 126 }
-    requires signals { length rows.now.signals ≤ 504 }
-    requires tracks { length rows.now.tracks ≤ 504 }
-    ensures { IfOk result (AreTablesOf rows.now) }
+    requires few { length rows.now.modules ≤ most_modules }
+    requires points { length rows.now.points ≤ most_points }
+    requires signals { length rows.now.signals ≤ most_signals }
+    requires tracks { length rows.now.tracks ≤ most_tracks }
+    ensures { IfOk result (λ tables. (plan : Plan) → rows.now ≡ packed_of plan → AreTablesOf plan tables) }
 {
     let modules = rows.modules.as_slice();
     Ok(Tables {

@@ -2,6 +2,7 @@
 
 ghost use Rattle.std.specs.Prelude.{◌≡◌, ◌<◌, true, length};
 ghost use Rattle.ssi_identities.specs.DataSets.{names_in, module_with};
+ghost use Rattle.ssi_identities.specs.Wells.{wiring_kind};
 ghost use Rattle.ssi_image.specs.Places.{IsWiredTo, is_wired_kind};
 
 use crate::image::Image;
@@ -23,7 +24,7 @@ impl Image {
     pub fn wired(&self, kind: Kind, index: u16) -> (u8, u8)
         requires kind { is_wired_kind kind ≡ true }
         requires within { index < length (names_in self.now kind) }
-        ensures { IsWiredTo self.now kind index result.0 result.1 }
+        ensures { IsWiredTo self.now (wiring_kind kind) index result.0 result.1 }
     {
         self.tables.wires(kind)[usize::from(index)]
     }

@@ -10,9 +10,8 @@ use Rattle.ssi_identities.specs.declared.fact.Kind.{Kind}
 use Rattle.ssi_identities.specs.declared.fact.Kind.TheVariants.{Points, Signal, Track}
 use Rattle.ssi_trackside.specs.declared.events.Event.{Event}
 use Rattle.ssi_identities.specs.DataSets.{ModulePlan, Plan, names_in}
-use Rattle.ssi_identities.specs.Wells.{IsWell, is_wired_to, pins_of_kind, wired_kind}
+use Rattle.ssi_identities.specs.Wells.{IsWell, is_wired_to, pins_of_kind, wired_kind, wiring_kind}
 use Rattle.ssi_image.specs.Places.{IsWiredTo}
-use Rattle.ssi_cycle.proofs.Modules.{row_is_well}
 use Rattle.ssi_script.specs.declared.step.EventWord.{EventWord}
 use Rattle.ssi_script.specs.declared.step.EventWord.TheVariants as event
 use Rattle.ssi_script.specs.declared.step.ScriptStep.TheVariants.{Happen}
@@ -125,25 +124,19 @@ kind_known event.Mend = omega arith
 kind_known event.Jam = omega arith
 kind_known event.Unjam = omega arith
 
-abbrev number_of_kind : Kind → ℕ
-number_of_kind Points = 0
-number_of_kind Signal = 1
-number_of_kind _ = 2
-
-known_by : (k : ℕ) (zeroth first : Bool) → (k == 0) ≡ zeroth → (k == 1) ≡ first → k ≤ 2 → number_of_kind (if zeroth then Points else if first then Signal else Track) ≡ k
+known_by : (k : ℕ) (zeroth first : Bool) → (k == 0) ≡ zeroth → (k == 1) ≡ first → k ≤ 2 → wiring_kind (if zeroth then Points else if first then Signal else Track) ≡ k
 known_by k true first e f known = grind (arith, nat_tests)
 known_by k false true e f known = grind (arith, nat_tests)
 known_by k false false e f known = grind (arith, nat_tests)
 
-number_known : (k : ℕ) → k ≤ 2 → number_of_kind (wired_kind k) ≡ k
+number_known : (k : ℕ) → k ≤ 2 → wiring_kind (wired_kind k) ≡ k
 number_known k known = known_by k (k == 0) (k == 1) refl refl known
 
 -- an identity is wired to what the first wire tells
 pub wire_is : (plan : Plan) (word : EventWord) (kind : Kind) (identity number pin : ℕ) → IsWell plan → identity < length (names_in plan (wired_kind (module_kind_of word))) → kind ≡ wired_kind (module_kind_of word)
-    → (at : IsWiredTo plan kind identity number pin) → wire_among plan.modules (module_kind_of word) identity ≡ Some (record { address = at.row.address; kind = module_kind_of word; pin = pin })
+    → (at : IsWiredTo plan (wiring_kind kind) identity number pin) → wire_among plan.modules (module_kind_of word) identity ≡ Some (record { address = at.row.address; kind = module_kind_of word; pin = pin })
 wire_is plan word kind identity number pin well within same at =
-    let known = (row_is_well plan number at.row well at.row_is).kind in
-    let own : at.row.kind ≡ module_kind_of word = sym (number_known at.row.kind known) ∙ ap number_of_kind (at.kind_is ∙ same) ∙ number_known (module_kind_of word) (kind_known word) in
+    let own : at.row.kind ≡ module_kind_of word = at.kind_is ∙ ap wiring_kind same ∙ number_known (module_kind_of word) (kind_known word) in
     let once : count_by (is_wired_to identity) (pins_of_kind plan (module_kind_of word)) ≡ 1 = well.wiring.wired (module_kind_of word) (kind_known word) identity within in
     wired_first identity (module_kind_of word) plan.modules number pin at.row at.row_is own at.pin_is (omega (arith, once))
 
@@ -152,7 +145,7 @@ some_address a row o there is = let same : Some a ≡ Some row.address = is ∙ 
 
 -- so an event happens at that pin
 pub happens : (plan : Plan) (word : EventWord) (kind : Kind) (identity number pin address module_kind : ℕ) (what : Event) → IsWell plan → identity < length (names_in plan (wired_kind (module_kind_of word))) → kind ≡ wired_kind (module_kind_of word)
-    → IsWiredTo plan kind identity number pin → Some address ≡ option_map (λ row. row.address) (slice_get plan.modules number) → module_kind ≡ module_kind_of word → what ≡ event_at word pin
+    → IsWiredTo plan (wiring_kind kind) identity number pin → Some address ≡ option_map (λ row. row.address) (slice_get plan.modules number) → module_kind ≡ module_kind_of word → what ≡ event_at word pin
     → (token : Token) → event_step plan word token (Ok identity) ≡ Ok (Happen address module_kind what)
 happens plan word kind identity number pin address module_kind what well within same at there of_kind is token =
     let wire = wire_is plan word kind identity number pin well within same at in

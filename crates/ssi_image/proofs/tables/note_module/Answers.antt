@@ -14,7 +14,7 @@ loop-pin-preserved c =
     let own : row.kind ≡ c.args.kind = let k = ap (λ (r : Wiring). r.kind) c.row.view_is in grind (arith, nat_tests, common_steps) in
     record {
       same = ap length c.note_wire.ensures ∙ noted_length c.loop-pin.table.items _ (c.args.number, c.loop-pin.pin) ∙ so_far.same;
-      wires = λ modules found before.
-          next_pin modules c.args.kind c.args.number row found c.loop-pin.pin _ c.loop-pin.table.items c.note_wire.new.table.items own
-          (ap (λ (xs : List (Option ℕ)). slice_get xs c.loop-pin.pin) (sym pins) ∙ read_at c.deref-wired-items.result.now c.loop-pin.pin _ c.loop-pin-test.true (grind (arith, common_steps))) c.note_wire.ensures (so_far.wires modules found before);
+      wires = λ plan wired found is before.
+          next_pin plan c.args.kind c.args.number wired found c.loop-pin.pin _ c.loop-pin.table.items c.note_wire.new.table.items (ap (λ (r : Wiring). r.kind) is ∙ own)
+          (ap (λ (r : Wiring). slice_get r.pins c.loop-pin.pin) is ∙ ap (λ (xs : List (Option ℕ)). slice_get xs c.loop-pin.pin) (sym pins) ∙ read_at c.deref-wired-items.result.now c.loop-pin.pin _ c.loop-pin-test.true (grind (arith, common_steps))) c.note_wire.ensures (so_far.wires plan wired found is before);
     }

@@ -1,8 +1,8 @@
-use Rattle.std.proofs.Common.{◌≡◌, ◌<◌, ℕ, Some, None, ap, sym, subst, length, ◌∙◌}
+use Rattle.std.proofs.Common.{◌≡◌, ◌<◌, ℕ, Some, None, ap, sym, subst, take, length, ◌∙◌}
 use Rattle.std.specs.Prelude.{get_or, slice_set, unwrap_or}
-use Rattle.std.proofs.lemmas.List.{length-set}
+use Rattle.std.proofs.lemmas.List.{length-set, take_all}
 use Rattle.ssi_image.specs.Packed.{Wiring}
-use Rattle.ssi_image.proofs.Tabling.{places_more}
+use Rattle.ssi_image.proofs.Tabling.{places_more, places_of}
 use Rattle.ssi_image.proofs.tables.places.Goals as goal
 
 pub loop-number-preserved : goal.loop-number-preserved
@@ -21,3 +21,7 @@ loop-number-preserved c =
       long = ap length noted ∙ length-set table row.address _ ∙ so_far.long;
       places = places_more c.args.modules.now i row table c.note_place.new.table.items within c.index-modules-number.is so_far.long small noted so_far.places;
     }
+
+pub returns-clause-places : goal.returns-clause-places
+returns-clause-places c = λ plan are.
+    places_of plan c.args.modules.now (take c.loop-number.number c.args.modules.now) c.loop-number.table.items are (take_all c.loop-number.number c.args.modules.now c.loop-number-test.false) c.loop-number.invariant.places

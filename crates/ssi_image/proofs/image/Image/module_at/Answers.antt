@@ -6,7 +6,7 @@ use Rattle.ssi_image.proofs.image.Image.module_at.Goals as goal
 
 pub returns-then-address-lt64 : goal.returns-then-address-lt64
 returns-then-address-lt64 c =
-    place_found c.self.inside.of_plan.0 c.args.self.now c.self.inside.rows c.self.inside.tables c.args.address c.index.result.now c.self.inside.of_plan.1.same c.self.view_is c.self.invariant c.if-address-lt64.true
+    place_found c.self.inside.of_plan.0 c.args.self.now c.self.inside.tables c.args.address c.index.result.now c.self.view_is c.self.invariant c.if-address-lt64.true
     (let index = c.index.ensures in let place = c.from.ensures in grind (arith, common_steps))
 
 pub returns-else-address-lt64 : goal.returns-else-address-lt64

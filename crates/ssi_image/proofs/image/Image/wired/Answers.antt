@@ -7,8 +7,7 @@ use Rattle.ssi_image.proofs.image.Image.wired.Goals as goal
 pub returns : goal.returns
 returns c =
     let plan = c.self.inside.of_plan.0 in
-    let packed = c.self.inside.of_plan.1.same in
     let within : c.args.index < length (names_in plan c.args.kind) = subst (λ (p : Plan). c.args.index < length (names_in p c.args.kind)) (sym c.self.view_is) c.requires.within in
-    let long = table_long plan c.self.inside.rows c.self.inside.tables c.args.kind c.args.index packed c.self.invariant c.requires.kind within in
-    wire_of_kind plan c.args.self.now c.self.inside.rows c.self.inside.tables c.args.kind c.args.index _ c.self.inside.of_plan.1.well packed c.self.view_is c.self.invariant c.requires.kind within
+    let long = table_long plan c.self.inside.tables c.args.kind c.args.index c.self.invariant c.requires.kind within in
+    wire_of_kind plan c.args.self.now c.self.inside.tables c.args.kind c.args.index _ c.self.inside.of_plan.1.well c.self.view_is c.self.invariant c.requires.kind within
     (wire_read (wires_of c.self.inside.tables c.args.kind) c.wires.result.now c.args.index c.from.result c.wires.ensures c.from.ensures long)
