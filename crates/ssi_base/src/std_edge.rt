@@ -6,10 +6,11 @@ ghost use Rattle.std.specs.Io.KnownBytes.{Keeps, ReadConsumes, WriteAppends};
 ghost use Rattle.ssi_base.specs.Faults.{HasCause, unbounded, one_more};
 
 use crate::outside::{Failed, Sink, Source};
-use std::io::{BufWriter, Read, Write};
+use std::io::{BufWriter, ErrorKind, Read, Write};
 use std::marker::Model;
 
-/// Reads from a reader of std. Contracts see the reader, and how often it has failed.
+/// Reads from a reader of std. A read that was interrupted is tried again, and is no failure. Contracts see the
+/// reader, and how often it has failed.
 #[derive(Drop)]
 pub struct StdSource<R: Read + Drop> {
     reader: R,
@@ -50,13 +51,15 @@ impl<R: Read + Drop> Source for StdSource<R> {
         ensures count { self.new.failed ≡
             (if is_err result then one_more self.old.failed else self.old.failed) }
     {
-        match self.reader.read(buf) {
-            Ok(count) => Ok(count),
-            Err(_) => {
-                self.failed = self.failed.saturating_add(1);
-                Err(Failed)
+        'tries: for _ in 0..u64::MAX {
+            match self.reader.read(buf) {
+                Ok(count) => return Ok(count),
+                Err(error) if error.kind() == ErrorKind::Interrupted => {}
+                Err(_) => break,
             }
         }
+        self.failed = self.failed.saturating_add(1);
+        Err(Failed)
     }
 }
 
