@@ -6,21 +6,20 @@ use Rattle.ssi_names.specs.Bodies as f
 use Rattle.ssi_names.specs.Codes.{too_many}
 use Rattle.ssi_names.specs.declared.fault.Fault.{Fault}
 use Rattle.ssi_names.specs.declared.scope.Scope.{Scope}
-use Rattle.ssi_names.specs.Occurrences.{joined}
-use Rattle.ssi_names.specs.Scopes.{command_faults, commands_faults}
+use Rattle.ssi_names.specs.Occurrences.{one_by_one}
+use Rattle.ssi_names.specs.Scopes.{known, command_faults, commands_faults}
 use Rattle.ssi_names.proofs.Pins.{no_spot}
-use Rattle.ssi_names.specs.Tables.{knows, rules}
 use Rattle.ssi_names.specs.Texts.{characters}
 
 -- the faults of a command's name, and of its word
 abbrev name_part : Scope → Bool → CommandTree → List Fault
-name_part scope many tree = f.named_faults scope.text.now (knows scope.tables.now) (rules scope.tables.now) scope.file ((many, too_many) ∷ []) tree.name
+name_part scope many tree = f.named_faults (known scope) scope.file ((many, too_many) ∷ []) tree.name
 
 abbrev word_part : Scope → CommandTree → List Fault
-word_part scope tree = f.command_word_faults scope.text.now (knows scope.tables.now) (rules scope.tables.now) scope.file (characters scope.text.now tree.name) tree.word
+word_part scope tree = f.command_word_faults (known scope) scope.file (characters scope.text.now tree.name) tree.word
 
 -- commands of which the name of the first asks nothing else
-plain : (scope : Scope) (trees : List CommandTree) → joined (map (command_faults scope) trees) ≡ commands_faults scope ((false, too_many) ∷ []) trees
+plain : (scope : Scope) (trees : List CommandTree) → one_by_one (map (command_faults scope []) trees) ≡ commands_faults scope ((false, too_many) ∷ []) trees
 plain scope [] = refl
 plain scope (tree ∷ trees) = refl
 

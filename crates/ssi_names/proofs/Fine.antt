@@ -17,7 +17,7 @@ use Rattle.ssi_names.specs.Codes.{twice, block_twice, too_many, not_wired}
 use Rattle.ssi_names.specs.declared.fault.Fault.{Fault}
 use Rattle.ssi_names.specs.declared.rule_file.RuleFile.TheVariants.{Requests}
 use Rattle.ssi_names.specs.declared.tables.Tables.{Tables}
-use Rattle.ssi_names.specs.Declarations.{declared, is_declared_in, is_wired_in, has_rule_in, has_module_in}
+use Rattle.ssi_names.specs.Declarations.{Declared, declared, declared_in}
 use Rattle.ssi_names.specs.Faults as f
 use Rattle.ssi_names.specs.NameLists.{is_among, with_name, set_of}
 use Rattle.ssi_names.specs.Occurrences.{at, in_order}
@@ -111,32 +111,32 @@ declares spot again code limit count codes none =
     (first.0, grind (arith, nat_tests))
 
 -- a wired name without faults fits
-wired_fits : {X : Type 0} (text : List ℕ) (wired : List ℕ → Bool) (name_of : X → Spot) (limit : ℕ) (earlier : List X) (x : X) → f.wired_name_faults text wired name_of limit earlier x ≡ []
-    → Fits (λ e. characters text (name_of e)) limit earlier x
-wired_fits text wired name_of limit earlier x none =
-    declares (name_of x) (is_among (characters text (name_of x)) (map (λ e. characters text (name_of e)) earlier)) twice limit (length earlier)
-    ((not (wired (characters text (name_of x))), not_wired) ∷ []) none
+wired_fits : {X : Type 0} (d : Declared) (name_of : X → Spot) (limit : ℕ) (earlier : List X) (x : X) → f.wired_name_faults d name_of limit earlier x ≡ []
+    → Fits (λ e. characters d.text (name_of e)) limit earlier x
+wired_fits d name_of limit earlier x none =
+    declares (name_of x) (is_among (characters d.text (name_of x)) (map (λ e. characters d.text (name_of e)) earlier)) twice limit (length earlier)
+    ((not (d.is_wired (characters d.text (name_of x))), not_wired) ∷ []) none
 
 -- another name without faults fits
-name_fits : {X : Type 0} (text : List ℕ) (name_of : X → Spot) (limit : ℕ) (earlier : List X) (x : X) → f.name_faults text name_of limit earlier x ≡ []
-    → Fits (λ e. characters text (name_of e)) limit earlier x
-name_fits text name_of limit earlier x none =
-    declares (name_of x) (is_among (characters text (name_of x)) (map (λ e. characters text (name_of e)) earlier)) twice limit (length earlier) [] none
+name_fits : {X : Type 0} (d : Declared) (name_of : X → Spot) (limit : ℕ) (earlier : List X) (x : X) → f.name_faults d name_of limit earlier x ≡ []
+    → Fits (λ e. characters d.text (name_of e)) limit earlier x
+name_fits d name_of limit earlier x none =
+    declares (name_of x) (is_among (characters d.text (name_of x)) (map (λ e. characters d.text (name_of e)) earlier)) twice limit (length earlier) [] none
 
 -- the files without faults
 pub record NoFaults (text : List ℕ) (tree : SourceText) : Type 0 where
-  pub points : in_order (f.points_faults text (is_declared_in text tree) (is_wired_in text tree)) [] tree.identities.points ≡ []
-  pub signals : in_order (f.signal_faults text (is_wired_in text tree)) [] tree.identities.signals ≡ []
-  pub tracks : in_order (f.track_faults text (is_wired_in text tree)) [] tree.identities.tracks ≡ []
-  pub routes : in_order (f.route_faults text (is_declared_in text tree)) [] tree.identities.routes ≡ []
-  pub subs : in_order (f.sub_faults text (is_declared_in text tree)) [] tree.identities.subs ≡ []
-  pub flags : in_order (f.flag_faults text) [] tree.identities.flags ≡ []
-  pub modules : in_order (f.module_faults text (is_declared_in text tree)) [] tree.identities.modules ≡ []
-  pub requests : in_order (f.request_faults text (is_declared_in text tree) (has_rule_in text tree)) [] tree.requests ≡ []
-  pub moves : in_order (f.move_faults text (is_declared_in text tree) (has_rule_in text tree)) [] tree.free ≡ []
-  pub statements : in_order (f.statement_faults text (is_declared_in text tree) (has_rule_in text tree)) [] tree.statements ≡ []
-  pub outputs : in_order (f.output_faults text (is_declared_in text tree) (has_rule_in text tree) (has_module_in text tree)) [] tree.outputs ≡ []
-  pub inputs : in_order (f.input_faults text (is_declared_in text tree) (has_rule_in text tree) (has_module_in text tree)) [] tree.inputs ≡ []
+  pub points : in_order (f.points_faults (declared_in text tree)) [] tree.identities.points ≡ []
+  pub signals : in_order (f.signal_faults (declared_in text tree)) [] tree.identities.signals ≡ []
+  pub tracks : in_order (f.track_faults (declared_in text tree)) [] tree.identities.tracks ≡ []
+  pub routes : in_order (f.route_faults (declared_in text tree)) [] tree.identities.routes ≡ []
+  pub subs : in_order (f.sub_faults (declared_in text tree)) [] tree.identities.subs ≡ []
+  pub flags : in_order (f.flag_faults (declared_in text tree)) [] tree.identities.flags ≡ []
+  pub modules : in_order (f.module_faults (declared_in text tree)) [] tree.identities.modules ≡ []
+  pub requests : in_order (f.request_faults (declared_in text tree)) [] tree.requests ≡ []
+  pub moves : in_order (f.move_faults (declared_in text tree)) [] tree.free ≡ []
+  pub statements : in_order (f.statement_faults (declared_in text tree)) [] tree.statements ≡ []
+  pub outputs : in_order (f.output_faults (declared_in text tree)) [] tree.outputs ≡ []
+  pub inputs : in_order (f.input_faults (declared_in text tree)) [] tree.inputs ≡ []
 
 -- where the faults of five files are none, those of each are none
 five : (a b c d e : List Fault) → a ++ b ++ c ++ d ++ e ≡ [] → (a ≡ []) × (b ≡ []) × (c ≡ []) × (d ≡ []) × (e ≡ [])
@@ -156,8 +156,8 @@ seven a b c d e g h none =
 -- where there are no faults, no file has one
 pub no_faults : (text : List ℕ) (tree : SourceText) → f.faults_of text tree ≡ [] → NoFaults text tree
 no_faults text tree none =
-    let identities = f.identity_faults text (is_declared_in text tree) (is_wired_in text tree) tree.identities in
-    let rules = f.rule_faults text (is_declared_in text tree) (has_rule_in text tree) (has_module_in text tree) tree in
+    let identities = f.identity_faults (declared_in text tree) tree.identities in
+    let rules = f.rule_faults (declared_in text tree) tree in
     let first = seven _ _ _ _ _ _ _ (no_front identities rules none) in
     let second = five _ _ _ _ _ (no_back identities rules none) in
     record {
@@ -178,37 +178,37 @@ no_faults text tree none =
 -- those of points
 new_points : (text : List ℕ) (tree : SourceText) → NoFaults text tree → AreNew (declared text tree Points) 126
 new_points text tree fine =
-    new_names (λ (e : PointsText). characters text e.name) 126 (f.points_faults text (is_declared_in text tree) (is_wired_in text tree))
-    (λ earlier x none. wired_fits text (is_wired_in text tree) (λ (e : PointsText). e.name) 126 earlier x
-    (no_front (f.wired_name_faults text (is_wired_in text tree) (λ (e : PointsText). e.name) 126 earlier x) (in_order (f.member_faults text (is_declared_in text tree Track) 4) [] x.tracks) none)) tree.identities.points fine.points
+    new_names (λ (e : PointsText). characters text e.name) 126 (f.points_faults (declared_in text tree))
+    (λ earlier x none. wired_fits (declared_in text tree) (λ (e : PointsText). e.name) 126 earlier x
+    (no_front (f.wired_name_faults (declared_in text tree) (λ (e : PointsText). e.name) 126 earlier x) (in_order (f.member_faults (declared_in text tree) Track 4) [] x.tracks) none)) tree.identities.points fine.points
 
 -- those of routes
 new_routes : (text : List ℕ) (tree : SourceText) → NoFaults text tree → AreNew (declared text tree Route) 512
 new_routes text tree fine =
-    new_names (λ (e : RouteText). characters text e.name) 512 (f.route_faults text (is_declared_in text tree))
+    new_names (λ (e : RouteText). characters text e.name) 512 (f.route_faults (declared_in text tree))
     (λ earlier x none.
-    let name = f.name_faults text (λ (e : RouteText). e.name) 512 earlier x in
-    let signal = f.reference_faults text (is_declared_in text tree Signal) x.signal in
-    name_fits text (λ (e : RouteText). e.name) 512 earlier x
-    (no_front name (signal ++ in_order (f.member_faults text (is_declared_in text tree Subroute) 32) [] x.subs) none)) tree.identities.routes fine.routes
+    let name = f.name_faults (declared_in text tree) (λ (e : RouteText). e.name) 512 earlier x in
+    let signal = f.reference_faults (declared_in text tree) Signal x.signal in
+    name_fits (declared_in text tree) (λ (e : RouteText). e.name) 512 earlier x
+    (no_front name (signal ++ in_order (f.member_faults (declared_in text tree) Subroute 32) [] x.subs) none)) tree.identities.routes fine.routes
 
 -- those of sub-routes
 new_subs : (text : List ℕ) (tree : SourceText) → NoFaults text tree → AreNew (declared text tree Subroute) 1024
 new_subs text tree fine =
-    new_names (λ (e : SubText). characters text e.name) 1024 (f.sub_faults text (is_declared_in text tree))
+    new_names (λ (e : SubText). characters text e.name) 1024 (f.sub_faults (declared_in text tree))
     (λ earlier x none.
-    let name = f.name_faults text (λ (e : SubText). e.name) 1024 earlier x in
-    let track = f.reference_faults text (is_declared_in text tree Track) x.track in
-    name_fits text (λ (e : SubText). e.name) 1024 earlier x
-    (no_front name (track ++ in_order (f.lie_faults text (is_declared_in text tree Points)) [] x.lies) none)) tree.identities.subs fine.subs
+    let name = f.name_faults (declared_in text tree) (λ (e : SubText). e.name) 1024 earlier x in
+    let track = f.reference_faults (declared_in text tree) Track x.track in
+    name_fits (declared_in text tree) (λ (e : SubText). e.name) 1024 earlier x
+    (no_front name (track ++ in_order (f.lie_faults (declared_in text tree)) [] x.lies) none)) tree.identities.subs fine.subs
 
 -- those of requests
 new_requests : (text : List ℕ) (tree : SourceText) → NoFaults text tree → AreNew (declared text tree Request) 1024
 new_requests text tree fine =
-    new_names (λ (e : Spot × BodyTree). characters text e.0) 1024 (f.request_faults text (is_declared_in text tree) (has_rule_in text tree))
+    new_names (λ (e : Spot × BodyTree). characters text e.0) 1024 (f.request_faults (declared_in text tree))
     (λ earlier x none.
     declares x.0 (is_among (characters text x.0) (map (λ e. characters text e.0) earlier)) block_twice 1024 (length earlier) []
-    (no_front (f.request_name_faults text earlier x.0) (body_faults text (is_declared_in text tree) (has_rule_in text tree) Requests x.1) none)) tree.requests fine.requests
+    (no_front (f.request_name_faults (declared_in text tree) earlier x.0) (body_faults (declared_in text tree) Requests x.1) none)) tree.requests fine.requests
 
 -- the limit of a kind
 abbrev pub limit_of : Kind → ℕ
@@ -225,13 +225,13 @@ all_kinds : (text : List ℕ) (tree : SourceText) → NoFaults text tree → (ki
 unfolding IsDistinct
 all_kinds text tree fine Points = new_points text tree fine
 all_kinds text tree fine Signal =
-    new_names (λ (e : Spot). characters text e) 504 (f.signal_faults text (is_wired_in text tree)) (wired_fits text (is_wired_in text tree) (λ (e : Spot). e) 504) tree.identities.signals fine.signals
+    new_names (λ (e : Spot). characters text e) 504 (f.signal_faults (declared_in text tree)) (wired_fits (declared_in text tree) (λ (e : Spot). e) 504) tree.identities.signals fine.signals
 all_kinds text tree fine Track =
-    new_names (λ (e : Spot). characters text e) 504 (f.track_faults text (is_wired_in text tree)) (wired_fits text (is_wired_in text tree) (λ (e : Spot). e) 504) tree.identities.tracks fine.tracks
+    new_names (λ (e : Spot). characters text e) 504 (f.track_faults (declared_in text tree)) (wired_fits (declared_in text tree) (λ (e : Spot). e) 504) tree.identities.tracks fine.tracks
 all_kinds text tree fine Route = new_routes text tree fine
 all_kinds text tree fine Subroute = new_subs text tree fine
 all_kinds text tree fine Flag =
-    new_names (λ (e : Spot). characters text e) 512 (f.flag_faults text) (name_fits text (λ (e : Spot). e) 512) tree.identities.flags fine.flags
+    new_names (λ (e : Spot). characters text e) 512 (f.flag_faults (declared_in text tree)) (name_fits (declared_in text tree) (λ (e : Spot). e) 512) tree.identities.flags fine.flags
 all_kinds text tree fine Request = new_requests text tree fine
 
 -- no limit is past 1024

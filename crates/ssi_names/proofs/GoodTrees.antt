@@ -9,7 +9,7 @@ use Rattle.ssi_identities.specs.Codes.{with_length}
 use Rattle.ssi_lexer.specs.Languages.{ListedBy, last, and_more, SeveralBy, several}
 use Rattle.ssi_lexer.specs.Lexemes.{Lexeme}
 use Rattle.ssi_names.specs.declared.fault.Fault.{Fault}
-use Rattle.ssi_names.specs.Occurrences.{joined}
+use Rattle.ssi_names.specs.Occurrences.{one_by_one}
 use Rattle.ssi_names.proofs.Fine.{no_front, no_back}
 
 -- what is measured of a tree: its faults; whether its row names only what its place allows, and has no list that is too short; how deep its row goes; and its row's code
@@ -28,7 +28,7 @@ pub record IsGood (X : Type 0) (m : Measures X) (most : ℕ) (x : X) (tokens : L
 -- the same of all trees of a list, with and without the length of each piece of code
 pub record AreGood (X : Type 0) (m : Measures X) (most : ℕ) (xs : List X) (tokens : List Lexeme) : Type 0 where
   pub some : 1 ≤ length xs
-  pub within : joined (map m.faults xs) ≡ [] → list_all (λ within. within) (map m.within xs) ≡ true
+  pub within : one_by_one (map m.faults xs) ≡ [] → list_all (λ within. within) (map m.within xs) ≡ true
   pub depth : greatest (map m.depth xs) ≤ most
   pub short : length (concat (map m.code xs)) ≤ 5 * length tokens
   pub pieces : length (concat (map with_length (map m.code xs))) ≤ 5 * length tokens + 4
@@ -52,8 +52,8 @@ listed_good X m most mark S each xs tokens (and_more x ys t u v spells between r
     record {
       some = omega arith;
       within = λ none.
-          both_true (one.within (no_front (m.faults x) (joined (map m.faults ys)) none))
-          (others.within (no_back (m.faults x) (joined (map m.faults ys)) none));
+          both_true (one.within (no_front (m.faults x) (one_by_one (map m.faults ys)) none))
+          (others.within (no_back (m.faults x) (one_by_one (map m.faults ys)) none));
       depth = max-le one.depth others.depth;
       short = omega (arith, one.short, others.short, long, length-append (m.code x) (concat (map m.code ys)));
       pieces = omega (arith, one.short, others.pieces, long, length-append (with_length (m.code x)) (concat (map with_length (map m.code ys))));

@@ -4,10 +4,10 @@ use Rattle.std.specs.Prelude.{fold}
 use Rattle.ssi_identities.specs.declared.fact.Kind.TheVariants.{Points, Signal, Track, Route, Subroute, Flag, Request}
 use Rattle.ssi_names.specs.SourceTexts.{SourceText}
 use Rattle.ssi_names.specs.declared.tables.Tables.{Tables}
-use Rattle.ssi_names.specs.Declarations.{declared, is_declared_in, is_wired_in, has_rule_in, has_module_in, pins_of, names_at, points_with_rules, addresses_of}
+use Rattle.ssi_names.specs.Declarations.{declared, declared_in, has_rule_in, pins_of, names_at, points_with_rules, addresses_of}
 use Rattle.ssi_names.specs.Faults.{faults_by, faults_of}
 use Rattle.ssi_names.specs.NameLists.{is_among, with_name, set_of}
-use Rattle.ssi_names.specs.Tables.{AreTablesOf, table_of, tables_of_identities, knows, rules, wires, has_module}
+use Rattle.ssi_names.specs.Tables.{AreTablesOf, table_of, tables_of_identities, known_by, rules}
 use Rattle.ssi_names.proofs.Sets.{in_set}
 
 -- names that were added to none
@@ -64,19 +64,17 @@ of_rules : (text : List ℕ) (tree : SourceText) (tables : Tables) → AreTables
 of_rules text tree tables are name true = of_set (points_with_rules text tree.free true) tables.free_reverse name are.reverse
 of_rules text tree tables are name false = of_set (points_with_rules text tree.free false) tables.free_normal name are.normal
 
--- the faults by the tables are those by the lists
-pub same_faults : (text : List ℕ) (tree : SourceText) (tables : Tables) → AreTablesOf text tree tables
-    → faults_by text (knows tables) (wires tables) (rules tables) (has_module tables) tree ≡ faults_of text tree
-same_faults text tree tables are =
-    let all_known : knows tables ≡ is_declared_in text tree =
-    (λ j kind name. of_set (declared text tree kind) (table_of tables kind) name (are.declared_names kind) j)
-    in
-    let all_wired : wires tables ≡ is_wired_in text tree = (λ j name. of_set (names_at text (pins_of tree.identities.modules)) tables.wired name are.wired_names j) in
-    let all_rules : rules tables ≡ has_rule_in text tree = (λ j name lie. of_rules text tree tables are name lie j) in
-    let all_modules : has_module tables ≡ has_module_in text tree =
-    (λ j address. of_set (addresses_of text tree.identities.modules) tables.addresses address are.addresses j)
-    in
-    ap (λ test. faults_by text test (wires tables) (rules tables) (has_module tables) tree) all_known
-    ∙ ap (λ test. faults_by text (is_declared_in text tree) test (rules tables) (has_module tables) tree) all_wired
-    ∙ ap (λ test. faults_by text (is_declared_in text tree) (is_wired_in text tree) test (has_module tables) tree) all_rules
-    ∙ ap (λ test. faults_by text (is_declared_in text tree) (is_wired_in text tree) (has_rule_in text tree) test tree) all_modules
+-- what the tables know is what the text declares
+declared_is : (text : List ℕ) (tree : SourceText) (tables : Tables) → AreTablesOf text tree tables → known_by text tables ≡ declared_in text tree
+declared_is text tree tables are =
+    (λ j. record {
+      text = text;
+      is_declared = λ kind name. of_set (declared text tree kind) (table_of tables kind) name (are.declared_names kind) j;
+      is_wired = λ name. of_set (names_at text (pins_of tree.identities.modules)) tables.wired name are.wired_names j;
+      has_rule = λ name lie. of_rules text tree tables are name lie j;
+      has_module = λ address. of_set (addresses_of text tree.identities.modules) tables.addresses address are.addresses j;
+    })
+
+-- so the faults by the tables are those by the lists
+pub same_faults : (text : List ℕ) (tree : SourceText) (tables : Tables) → AreTablesOf text tree tables → faults_by (known_by text tables) tree ≡ faults_of text tree
+same_faults text tree tables are = ap (λ d. faults_by d tree) (declared_is text tree tables are)

@@ -11,7 +11,7 @@ use Rattle.ssi_identities.specs.declared.fact.Kind.TheVariants.{Points}
 use Rattle.ssi_terms.specs.declared.tree.Spot.{Spot}
 use Rattle.ssi_terms.specs.Trees.{ModuleText}
 use Rattle.ssi_names.specs.declared.tables.Tables.{Tables}
-use Rattle.ssi_names.specs.Declarations.{addresses_of, is_declared_in}
+use Rattle.ssi_names.specs.Declarations.{addresses_of, declared_in}
 use Rattle.ssi_names.specs.Faults.{faults_of, module_faults}
 use Rattle.ssi_names.specs.NameLists.{is_among, with_name, set_of}
 use Rattle.ssi_names.specs.Placing.{ArePlaces}
@@ -68,9 +68,8 @@ new_text text address (e ∷ earlier) new =
 -- so the addresses of modules differ as they are written
 addresses_written : (text : List ℕ) (tree : SourceText) → faults_of text tree ≡ [] → IsDistinct bytes_eq (addresses_of text tree.identities.modules)
 addresses_written text tree none =
-    let known = is_declared_in text tree in
-    names_differ (λ (e : ModuleText). characters text e.address) (module_faults text known)
-    (λ earlier e fine. new_text text e.address earlier (new_address text earlier e (address_fine text known earlier e fine)).new) tree.identities.modules (no_faults text tree none).modules
+    names_differ (λ (e : ModuleText). characters text e.address) (module_faults (declared_in text tree))
+    (λ earlier e fine. new_text text e.address earlier (new_address (declared_in text tree) earlier e (address_fine (declared_in text tree) earlier e fine)).new) tree.identities.modules (no_faults text tree none).modules
 
 -- ---- places
 

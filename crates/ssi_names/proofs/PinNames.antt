@@ -12,16 +12,17 @@ use Rattle.std.proofs.lemmas.List.Sums.{sum_by-cons}
 use Rattle.std.proofs.lemmas.Slice.Eq.{bytes_eq-Decides}
 use Rattle.ssi_identities.specs.declared.fact.Kind.{Kind}
 use Rattle.ssi_identities.specs.declared.fact.Kind.TheVariants.{Track}
-use Rattle.ssi_identities.specs.Wells.{wired_kind}
+use Rattle.ssi_identities.specs.Wells.{wired_kind, pin_count}
 use Rattle.ssi_terms.specs.declared.tree.Spot.{Spot}
 use Rattle.ssi_terms.specs.Trees.{PointsText, ModuleText}
 use Rattle.ssi_names.specs.Codes.{unknown, twice, not_wired, wired_twice, too_many}
-use Rattle.ssi_names.specs.Declarations.{declared, is_declared_in, is_wired_in, names_at, pins_of}
+use Rattle.ssi_names.specs.Declarations.{Declared, declared, declared_in, is_wired_in, names_at, pins_of}
 use Rattle.ssi_names.specs.Faults as f
 use Rattle.ssi_names.specs.NameLists.{is_among}
 use Rattle.ssi_names.specs.Occurrences.{at, in_order}
 use Rattle.ssi_names.specs.SourceTexts.{SourceText}
 use Rattle.ssi_names.specs.Texts.{characters}
+use Rattle.ssi_names.specs.Words.{module_kind_of}
 use Rattle.ssi_names.proofs.Fine.{no_front, no_back, first_fine, each_fine, no_faults}
 use Rattle.ssi_names.proofs.Sets.{or_false}
 use Rattle.ssi_names.proofs.WellModules.{pins_fine}
@@ -85,46 +86,46 @@ new_append before [] ys new more = subst (λ b. AreNewAfter b ys) (append-nil be
 new_append before (x ∷ xs) ys new more = (new.0, new_append (before ++ x ∷ []) xs ys new.1 (subst (λ b. AreNewAfter b ys) (sym (append_assoc before (x ∷ []) xs)) more))
 
 -- a name at a pin without a fault is new
-pin_new : (text : List ℕ) (known : List ℕ → Bool) (count : ℕ) (named : List ℕ → Bool) (earlier : List (Spot × Spot)) (pin : Spot × Spot) → f.pin_faults text known count named earlier pin ≡ []
-    → (named (characters text pin.0) || is_among (characters text pin.0) (names_at text earlier)) ≡ false
-pin_new text known count named earlier pin none =
-    let name = characters text pin.0 in
-    let again = named name || is_among name (names_at text earlier) in
-    let line = no_front (f.pin_name_faults text known named earlier pin) (f.pin_number_faults text count earlier pin) none in
-    (first_fine pin.0 again wired_twice [] (first_fine pin.0 (not (known name)) unknown ((again, wired_twice) ∷ []) line).1).0
+pin_new : (d : Declared) (kind : Kind) (count : ℕ) (named : List ℕ → Bool) (earlier : List (Spot × Spot)) (pin : Spot × Spot) → f.pin_faults d kind count named earlier pin ≡ []
+    → (named (characters d.text pin.0) || is_among (characters d.text pin.0) (names_at d.text earlier)) ≡ false
+pin_new d kind count named earlier pin none =
+    let name = characters d.text pin.0 in
+    let again = named name || is_among name (names_at d.text earlier) in
+    let line = no_front (f.pin_name_faults d kind named earlier pin) (f.pin_number_faults d count earlier pin) none in
+    (first_fine pin.0 again wired_twice [] (first_fine pin.0 (not (d.is_declared kind name)) unknown ((again, wired_twice) ∷ []) line).1).0
 
 -- so are the names of an entry
-new_pins : (text : List ℕ) (known : List ℕ → Bool) (count : ℕ) (before : List (List ℕ)) (earlier pins : List (Spot × Spot)) → in_order (f.pin_faults text known count (λ name. is_among name before)) earlier pins ≡ []
-    → AreNewAfter (before ++ names_at text earlier) (names_at text pins)
-new_pins text known count before earlier [] none = tt
-new_pins text known count before earlier (p ∷ pins) none =
-    let judge = f.pin_faults text known count (λ name. is_among name before) in
-    let rest = new_pins text known count before (earlier ++ p ∷ []) pins (no_back (judge earlier p) (in_order judge (earlier ++ p ∷ []) pins) none) in
-    let more : before ++ names_at text (earlier ++ p ∷ []) ≡ (before ++ names_at text earlier) ++ characters text p.0 ∷ [] =
-    ap (λ names. before ++ names) (map-append (λ pin. characters text pin.0) earlier (p ∷ [])) ∙ sym (append_assoc before (names_at text earlier) (characters text p.0 ∷ []))
+new_pins : (d : Declared) (kind : Kind) (count : ℕ) (before : List (List ℕ)) (earlier pins : List (Spot × Spot)) → in_order (f.pin_faults d kind count (λ name. is_among name before)) earlier pins ≡ []
+    → AreNewAfter (before ++ names_at d.text earlier) (names_at d.text pins)
+new_pins d kind count before earlier [] none = tt
+new_pins d kind count before earlier (p ∷ pins) none =
+    let judge = f.pin_faults d kind count (λ name. is_among name before) in
+    let rest = new_pins d kind count before (earlier ++ p ∷ []) pins (no_back (judge earlier p) (in_order judge (earlier ++ p ∷ []) pins) none) in
+    let more : before ++ names_at d.text (earlier ++ p ∷ []) ≡ (before ++ names_at d.text earlier) ++ characters d.text p.0 ∷ [] =
+    ap (λ names. before ++ names) (map-append (λ pin. characters d.text pin.0) earlier (p ∷ [])) ∙ sym (append_assoc before (names_at d.text earlier) (characters d.text p.0 ∷ []))
     in (
-      list_any-append (bytes_eq (characters text p.0)) before (names_at text earlier)
-          ∙ pin_new text known count (λ name. is_among name before) earlier p (no_front (judge earlier p) (in_order judge (earlier ++ p ∷ []) pins) none),
-      subst (λ names. AreNewAfter names (names_at text pins)) more rest,
+      list_any-append (bytes_eq (characters d.text p.0)) before (names_at d.text earlier)
+          ∙ pin_new d kind count (λ name. is_among name before) earlier p (no_front (judge earlier p) (in_order judge (earlier ++ p ∷ []) pins) none),
+      subst (λ names. AreNewAfter names (names_at d.text pins)) more rest,
     )
 
 -- and those of all entries
-pub new_modules : (text : List ℕ) (known : Kind → List ℕ → Bool) (earlier modules : List ModuleText) → in_order (f.module_faults text known) earlier modules ≡ []
-    → AreNewAfter (names_at text (pins_of earlier)) (names_at text (pins_of modules))
-new_modules text known earlier [] none = tt
-new_modules text known earlier (m ∷ modules) none =
-    let name = λ (pin : Spot × Spot). characters text pin.0 in
-    let word = characters text m.kind in
-    let before = names_at text (pins_of earlier) in
-    let fine = pins_fine text known earlier m (no_front (f.module_faults text known earlier m) (in_order (f.module_faults text known) (earlier ++ m ∷ []) modules) none) in
-    let here = new_pins text (known (f.kind_at_pins word)) (f.count_of_pins word) before [] m.pins fine in
-    let rest = new_modules text known (earlier ++ m ∷ []) modules (no_back (f.module_faults text known earlier m) (in_order (f.module_faults text known) (earlier ++ m ∷ []) modules) none) in
-    let more : names_at text (pins_of (earlier ++ m ∷ [])) ≡ before ++ names_at text m.pins =
-    ap (names_at text) (flat_map-append (λ e. e.pins) earlier (m ∷ []) ∙ ap (λ ps. pins_of earlier ++ ps) (append-nil m.pins)) ∙ map-append name (pins_of earlier) m.pins
+pub new_modules : (d : Declared) (earlier modules : List ModuleText) → in_order (f.module_faults d) earlier modules ≡ []
+    → AreNewAfter (names_at d.text (pins_of earlier)) (names_at d.text (pins_of modules))
+new_modules d earlier [] none = tt
+new_modules d earlier (m ∷ modules) none =
+    let name = λ (pin : Spot × Spot). characters d.text pin.0 in
+    let kind = module_kind_of (characters d.text m.kind) in
+    let before = names_at d.text (pins_of earlier) in
+    let fine = pins_fine d earlier m (no_front (f.module_faults d earlier m) (in_order (f.module_faults d) (earlier ++ m ∷ []) modules) none) in
+    let here = new_pins d (wired_kind kind) (pin_count kind) before [] m.pins fine in
+    let rest = new_modules d (earlier ++ m ∷ []) modules (no_back (f.module_faults d earlier m) (in_order (f.module_faults d) (earlier ++ m ∷ []) modules) none) in
+    let more : names_at d.text (pins_of (earlier ++ m ∷ [])) ≡ before ++ names_at d.text m.pins =
+    ap (names_at d.text) (flat_map-append (λ e. e.pins) earlier (m ∷ []) ∙ ap (λ ps. pins_of earlier ++ ps) (append-nil m.pins)) ∙ map-append name (pins_of earlier) m.pins
     in
     subst (AreNewAfter before) (sym (map-append name m.pins (pins_of modules)))
-    (new_append before (names_at text m.pins) (names_at text (pins_of modules)) (subst (λ b. AreNewAfter b (names_at text m.pins)) (append-nil before) here)
-    (subst (λ b. AreNewAfter b (names_at text (pins_of modules))) more rest))
+    (new_append before (names_at d.text m.pins) (names_at d.text (pins_of modules)) (subst (λ b. AreNewAfter b (names_at d.text m.pins)) (append-nil before) here)
+    (subst (λ b. AreNewAfter b (names_at d.text (pins_of modules))) more rest))
 
 -- ---- each name at a pin
 
@@ -135,29 +136,28 @@ third_fine spot again limit count wired none =
     let second = first_fine spot (nat_le limit count) too_many ((not wired, not_wired) ∷ []) first.1 in
     not-false wired (first_fine spot (not wired) not_wired [] second.1).0
 
-name_wired : {X : Type 0} (text : List ℕ) (wired : List ℕ → Bool) (name_of : X → Spot) (limit : ℕ) (earlier : List X) (x : X) → f.wired_name_faults text wired name_of limit earlier x ≡ []
-    → wired (characters text (name_of x)) ≡ true
-name_wired text wired name_of limit earlier x none =
-    third_fine (name_of x) (is_among (characters text (name_of x)) (map (λ e. characters text (name_of e)) earlier)) limit (length earlier) (wired (characters text (name_of x))) none
+name_wired : {X : Type 0} (d : Declared) (name_of : X → Spot) (limit : ℕ) (earlier : List X) (x : X) → f.wired_name_faults d name_of limit earlier x ≡ []
+    → d.is_wired (characters d.text (name_of x)) ≡ true
+name_wired d name_of limit earlier x none =
+    third_fine (name_of x) (is_among (characters d.text (name_of x)) (map (λ e. characters d.text (name_of e)) earlier)) limit (length earlier) (d.is_wired (characters d.text (name_of x))) none
 
 -- every points, signal and track
 pub all_wired : (text : List ℕ) (tree : SourceText) (kind : ℕ) → kind ≤ 2 → f.faults_of text tree ≡ [] → All (λ name. is_wired_in text tree name ≡ true) (declared text tree (wired_kind kind))
 all_wired text tree zero few none =
-    let known = is_declared_in text tree in
-    let wired = is_wired_in text tree in
-    All-map (λ name. wired name ≡ true) (λ (e : PointsText). characters text e.name) tree.identities.points
-    (each_fine (f.points_faults text known wired) (λ (e : PointsText). wired (characters text e.name) ≡ true)
-    (λ earlier e fine. name_wired text wired (λ (e : PointsText). e.name) 126 earlier e
-    (no_front (f.wired_name_faults text wired (λ (e : PointsText). e.name) 126 earlier e) (in_order (f.member_faults text (known Track) 4) [] e.tracks) fine))
+    let d = declared_in text tree in
+    All-map (λ name. d.is_wired name ≡ true) (λ (e : PointsText). characters text e.name) tree.identities.points
+    (each_fine (f.points_faults d) (λ (e : PointsText). d.is_wired (characters text e.name) ≡ true)
+    (λ earlier e fine. name_wired d (λ (e : PointsText). e.name) 126 earlier e
+    (no_front (f.wired_name_faults d (λ (e : PointsText). e.name) 126 earlier e) (in_order (f.member_faults d Track 4) [] e.tracks) fine))
     [] tree.identities.points (no_faults text tree none).points)
 all_wired text tree (suc zero) few none =
-    let wired = is_wired_in text tree in
-    All-map (λ name. wired name ≡ true) (λ (e : Spot). characters text e) tree.identities.signals
-    (each_fine (f.signal_faults text wired) (λ (e : Spot). wired (characters text e) ≡ true) (name_wired text wired (λ (e : Spot). e) 504)
+    let d = declared_in text tree in
+    All-map (λ name. d.is_wired name ≡ true) (λ (e : Spot). characters text e) tree.identities.signals
+    (each_fine (f.signal_faults d) (λ (e : Spot). d.is_wired (characters text e) ≡ true) (name_wired d (λ (e : Spot). e) 504)
     [] tree.identities.signals (no_faults text tree none).signals)
 all_wired text tree (suc (suc zero)) few none =
-    let wired = is_wired_in text tree in
-    All-map (λ name. wired name ≡ true) (λ (e : Spot). characters text e) tree.identities.tracks
-    (each_fine (f.track_faults text wired) (λ (e : Spot). wired (characters text e) ≡ true) (name_wired text wired (λ (e : Spot). e) 504)
+    let d = declared_in text tree in
+    All-map (λ name. d.is_wired name ≡ true) (λ (e : Spot). characters text e) tree.identities.tracks
+    (each_fine (f.track_faults d) (λ (e : Spot). d.is_wired (characters text e) ≡ true) (name_wired d (λ (e : Spot). e) 504)
     [] tree.identities.tracks (no_faults text tree none).tracks)
 all_wired text tree (suc (suc (suc kind))) few none = absurd (omega (arith, few))

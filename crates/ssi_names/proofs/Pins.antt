@@ -6,15 +6,17 @@ use Rattle.std.proofs.lemmas.Grind.{flat_map-append}
 use Rattle.std.proofs.lemmas.List.{append-nil, map-append, take_more}
 use Rattle.std.proofs.lemmas.List.Sums.{fold-append}
 use Rattle.ssi_identities.specs.declared.fact.Kind.{Kind}
+use Rattle.ssi_identities.specs.Wells.{wired_kind, pin_count}
 use Rattle.ssi_terms.specs.declared.tree.Spot.{Spot}
 use Rattle.ssi_names.specs.declared.fault.Fault.{Fault}
 use Rattle.ssi_names.specs.Codes.{unknown, twice, bad_pin, wired_twice}
 use Rattle.ssi_terms.specs.Trees.{ModuleText}
-use Rattle.ssi_names.specs.Declarations.{pins_of, names_at}
-use Rattle.ssi_names.specs.Faults.{pin_faults, module_faults, is_named_by, kind_at_pins, count_of_pins}
+use Rattle.ssi_names.specs.Declarations.{Declared, pins_of, names_at}
+use Rattle.ssi_names.specs.Faults.{pin_faults, module_faults, is_named_by}
 use Rattle.ssi_names.specs.NameLists.{is_among, with_name, set_of}
 use Rattle.ssi_names.specs.Occurrences.{at, in_order}
 use Rattle.ssi_names.specs.Texts.{characters, number, is_number_among}
+use Rattle.ssi_names.specs.Words.{module_kind_of}
 use Rattle.ssi_names.proofs.Marks.{IsMarked, was_marked}
 use Rattle.ssi_names.proofs.Sets.{in_fold, in_set}
 
@@ -35,18 +37,18 @@ pub pin_test : (count n : ℕ) (used : List Bool) (numbers : List ℕ) → count
 pin_test count n used numbers few marked = pin_test_by count n used numbers (nat_le count n) refl few marked
 
 -- the faults of one pin
-pub pin_is : (text : List ℕ) (known : List ℕ → Bool) (count : ℕ) (before : List (List ℕ)) (earlier : List (Spot × Spot)) (pin : Spot × Spot)
-    (seen : List (List ℕ)) (used : List Bool) (old middle new : List Fault) → count ≤ 8 → seen ≡ fold with_name before (names_at text earlier)
-    → IsMarked 8 used (map (λ e. number text e.1) earlier)
-    → middle ≡ old ++ at pin.0 ((not (known (characters text pin.0)), unknown) ∷ (is_among (characters text pin.0) seen, wired_twice) ∷ [])
-    → new ≡ middle ++ at pin.1 ((nat_le count (min (number text pin.1) 255) || slice_index_or used (min (number text pin.1) 255) false, bad_pin) ∷ [])
-    → new ≡ old ++ pin_faults text known count (λ name. is_among name before) earlier pin
-pin_is text known count before earlier pin seen used old middle new few was marked first second =
-    let named = ap (is_among (characters text pin.0)) was ∙ in_fold before (names_at text earlier) (characters text pin.0) in
-    let taken = pin_test count (number text pin.1) used (map (λ e. number text e.1) earlier) few marked in
+pub pin_is : (d : Declared) (kind : Kind) (count : ℕ) (before : List (List ℕ)) (earlier : List (Spot × Spot)) (pin : Spot × Spot)
+    (seen : List (List ℕ)) (used : List Bool) (old middle new : List Fault) → count ≤ 8 → seen ≡ fold with_name before (names_at d.text earlier)
+    → IsMarked 8 used (map (λ e. number d.text e.1) earlier)
+    → middle ≡ old ++ at pin.0 ((not (d.is_declared kind (characters d.text pin.0)), unknown) ∷ (is_among (characters d.text pin.0) seen, wired_twice) ∷ [])
+    → new ≡ middle ++ at pin.1 ((nat_le count (min (number d.text pin.1) 255) || slice_index_or used (min (number d.text pin.1) 255) false, bad_pin) ∷ [])
+    → new ≡ old ++ pin_faults d kind count (λ name. is_among name before) earlier pin
+pin_is d kind count before earlier pin seen used old middle new few was marked first second =
+    let named = ap (is_among (characters d.text pin.0)) was ∙ in_fold before (names_at d.text earlier) (characters d.text pin.0) in
+    let taken = pin_test count (number d.text pin.1) used (map (λ e. number d.text e.1) earlier) few marked in
     second ∙ ap (λ b. middle ++ at pin.1 ((b, bad_pin) ∷ [])) taken
-    ∙ ap (λ faults. faults ++ at pin.1 ((nat_le count (number text pin.1) || is_number_among (number text pin.1) (map (λ e. number text e.1) earlier), bad_pin) ∷ []))
-    (first ∙ ap (λ b. old ++ at pin.0 ((not (known (characters text pin.0)), unknown) ∷ (b, wired_twice) ∷ [])) named)
+    ∙ ap (λ faults. faults ++ at pin.1 ((nat_le count (number d.text pin.1) || is_number_among (number d.text pin.1) (map (λ e. number d.text e.1) earlier), bad_pin) ∷ []))
+    (first ∙ ap (λ b. old ++ at pin.0 ((not (d.is_declared kind (characters d.text pin.0)), unknown) ∷ (b, wired_twice) ∷ [])) named)
     ∙ append_assoc old _ _
 
 -- whether an address is out of its range, by its number up to 255
@@ -75,23 +77,23 @@ abbrev pub no_spot : Spot
 no_spot = record { start = 0; len = 0; token = 0; place = record { line = 0; column = 0 } }
 
 -- the faults of one entry
-pub module_is : (text : List ℕ) (known : Kind → List ℕ → Bool) (earlier : List ModuleText) (entry : ModuleText) (kind : Kind) (count : ℕ)
-    (seen : List (List ℕ)) (used : List Bool) (pins : List (Spot × Spot)) (old middle new : List Fault) → seen ≡ set_of (names_at text (pins_of earlier))
-    → IsMarked 64 used (map (λ e. number text e.address) earlier) → kind ≡ kind_at_pins (characters text entry.kind) → count ≡ count_of_pins (characters text entry.kind) → pins ≡ entry.pins
-    → middle ≡ old ++ at entry.address ((min (number text entry.address) 255 == 0 || nat_le 64 (min (number text entry.address) 255), bad_pin)
-    ∷ (slice_index_or used (min (number text entry.address) 255) false, twice) ∷ [])
-    → new ≡ middle ++ in_order (pin_faults text (known kind) count (λ name. is_among name seen)) [] pins → new ≡ old ++ module_faults text known earlier entry
-module_is text known earlier entry kind count seen used pins old middle new was marked kind_is count_is pins_are first second =
-    let word = characters text entry.kind in
-    let named : (λ name. is_among name seen) ≡ is_named_by text earlier =
-    (λ j name. (ap (is_among name) was ∙ in_set (names_at text (pins_of earlier)) name) j)
+pub module_is : (d : Declared) (earlier : List ModuleText) (entry : ModuleText) (kind : Kind) (count : ℕ)
+    (seen : List (List ℕ)) (used : List Bool) (pins : List (Spot × Spot)) (old middle new : List Fault) → seen ≡ set_of (names_at d.text (pins_of earlier))
+    → IsMarked 64 used (map (λ e. number d.text e.address) earlier) → kind ≡ wired_kind (module_kind_of (characters d.text entry.kind)) → count ≡ pin_count (module_kind_of (characters d.text entry.kind)) → pins ≡ entry.pins
+    → middle ≡ old ++ at entry.address ((min (number d.text entry.address) 255 == 0 || nat_le 64 (min (number d.text entry.address) 255), bad_pin)
+    ∷ (slice_index_or used (min (number d.text entry.address) 255) false, twice) ∷ [])
+    → new ≡ middle ++ in_order (pin_faults d kind count (λ name. is_among name seen)) [] pins → new ≡ old ++ module_faults d earlier entry
+module_is d earlier entry kind count seen used pins old middle new was marked kind_is count_is pins_are first second =
+    let number_of = module_kind_of (characters d.text entry.kind) in
+    let named : (λ name. is_among name seen) ≡ is_named_by d earlier =
+    (λ j name. (ap (is_among name) was ∙ in_set (names_at d.text (pins_of earlier)) name) j)
     in
-    second ∙ ap (λ test. middle ++ in_order (pin_faults text (known kind) count test) [] pins) named
-    ∙ ap (λ k. middle ++ in_order (pin_faults text (known k) count (is_named_by text earlier)) [] pins) kind_is
-    ∙ ap (λ n. middle ++ in_order (pin_faults text (known (kind_at_pins word)) n (is_named_by text earlier)) [] pins) count_is
-    ∙ ap (λ ps. middle ++ in_order (pin_faults text (known (kind_at_pins word)) (count_of_pins word) (is_named_by text earlier)) [] ps) pins_are
-    ∙ ap (λ faults. faults ++ in_order (pin_faults text (known (kind_at_pins word)) (count_of_pins word) (is_named_by text earlier)) [] entry.pins)
-    (first ∙ ap (λ faults. old ++ faults) (address_line entry.address (number text entry.address) used (map (λ e. number text e.address) earlier) marked))
+    second ∙ ap (λ test. middle ++ in_order (pin_faults d kind count test) [] pins) named
+    ∙ ap (λ k. middle ++ in_order (pin_faults d k count (is_named_by d earlier)) [] pins) kind_is
+    ∙ ap (λ n. middle ++ in_order (pin_faults d (wired_kind number_of) n (is_named_by d earlier)) [] pins) count_is
+    ∙ ap (λ ps. middle ++ in_order (pin_faults d (wired_kind number_of) (pin_count number_of) (is_named_by d earlier)) [] ps) pins_are
+    ∙ ap (λ faults. faults ++ in_order (pin_faults d (wired_kind number_of) (pin_count number_of) (is_named_by d earlier)) [] entry.pins)
+    (first ∙ ap (λ faults. old ++ faults) (address_line entry.address (number d.text entry.address) used (map (λ e. number d.text e.address) earlier) marked))
     ∙ append_assoc old _ _
 
 -- the names at the pins of one more entry

@@ -24,9 +24,10 @@ use Rattle.ssi_names.specs.Bodies as f
 use Rattle.ssi_names.specs.BodyRows as r
 use Rattle.ssi_names.specs.Codes.{unknown}
 use Rattle.ssi_names.specs.declared.fault.Fault.{Fault}
+use Rattle.ssi_names.specs.Declarations.{Declared}
 use Rattle.ssi_names.specs.declared.rule_file.RuleFile.{RuleFile}
 use Rattle.ssi_names.specs.Formed.{IsSpelledBody, AreSpelledCommands}
-use Rattle.ssi_names.specs.Occurrences.{at, joined}
+use Rattle.ssi_names.specs.Occurrences.{at, one_by_one}
 use Rattle.ssi_names.specs.Rows.{number_by_name}
 use Rattle.ssi_names.specs.Texts.{characters}
 use Rattle.ssi_names.specs.Words.{kind_of}
@@ -35,28 +36,28 @@ use Rattle.ssi_names.proofs.Fine.{no_front, no_back, first_fine}
 use Rattle.ssi_names.proofs.GoodTrees.{Measures, IsGood, listed_good}
 use Rattle.ssi_names.proofs.RowFolds.{row_of_do, row_of_if, row_of_body}
 use Rattle.ssi_names.proofs.WellConds.{conds, cond_spelled}
-use Rattle.ssi_names.proofs.WellWords.{AllowsBodies, known, facts, command_allowed}
+use Rattle.ssi_names.proofs.WellWords.{AllowsBodies, known, listing, facts, command_allowed}
 
 -- how long the code of a choice is
 choice_long : (guard body other : List ℕ) → length (0x22 ∷ with_length (with_length guard ++ (with_length body ++ other))) ≡ 13 + length guard + length body + length other
 choice_long guard body other = omega (arith, length-append (with_length guard) (with_length body ++ other), length-append (with_length body) other)
 
--- a body, by the text, by the names of each kind, by which lies of points have a rule, by its file, and by what it may name
-module _ (text : List ℕ) (names : Kind → List (List ℕ)) (has_rule : List ℕ → Bool → Bool) (file : RuleFile) (scope : BodyScope) (allows : AllowsBodies text names has_rule file scope) where
+-- a body, by what is declared, by the names of each kind, by its file, and by what it may name
+module _ (d : Declared) (names : Kind → List (List ℕ)) (file : RuleFile) (scope : BodyScope) (allows : AllowsBodies d names file scope) where
   -- the row of a part and of a body
   abbrev part_row : PartTree → BodyItem
-  part_row = r.part_row text (facts names) (number_by_name names)
+  part_row = r.part_row d.text (facts names) (number_by_name names)
 
   abbrev body_row : BodyTree → Body
-  body_row = r.body_row text (facts names) (number_by_name names)
+  body_row = r.body_row d.text (facts names) (number_by_name names)
 
   -- what is measured of guards, parts and bodies
   abbrev guards : Measures CondTree
-  guards = conds text names has_rule file scope.guards allows.guards
+  guards = conds d names file scope.guards allows.guards
 
   abbrev parts : Measures PartTree
   parts = record {
-    faults = f.part_faults text (known names) has_rule file;
+    faults = f.part_faults (listing d names) file;
     within = λ part. is_part_within scope (part_row part);
     depth = λ part. part_depth (part_row part);
     code = λ part. code_of_part (part_row part);
@@ -64,7 +65,7 @@ module _ (text : List ℕ) (names : Kind → List (List ℕ)) (has_rule : List �
 
   abbrev bodies : Measures BodyTree
   bodies = record {
-    faults = f.body_faults text (known names) has_rule file;
+    faults = f.body_faults (listing d names) file;
     within = λ body. is_body_within scope (body_row body);
     depth = λ body. body_depth (body_row body);
     code = λ body. code_of_body (body_row body);
@@ -73,13 +74,13 @@ module _ (text : List ℕ) (names : Kind → List (List ℕ)) (has_rule : List �
   -- a command
   command_good : (most : ℕ) (x : CommandTree) (tokens : List Lexeme) → SpellsCommand x tokens → IsGood PartTree parts most (p.Do x) tokens
   command_good most x tokens (a_command n w name word) =
-      let no_depth = row_of_do text (facts names) (number_by_name names) ℕ ℕ part_levels body_levels x in
-      let three = ap length (row_of_do text (facts names) (number_by_name names) (List ℕ) (List ℕ) part_code body_code x) in
+      let no_depth = row_of_do d.text (facts names) (number_by_name names) ℕ ℕ part_levels body_levels x in
+      let three = ap length (row_of_do d.text (facts names) (number_by_name names) (List ℕ) (List ℕ) part_code body_code x) in
       record {
         within = λ none.
-            row_of_do text (facts names) (number_by_name names) Bool Bool (part_within scope) body_within x
-            ∙ command_allowed text names has_rule file scope allows x
-            (sym (tree_do_is (List Fault) (List Fault) (f.part_step text (known names) has_rule file) (f.body_step text (known names) has_rule file) x) ∙ none);
+            row_of_do d.text (facts names) (number_by_name names) Bool Bool (part_within scope) body_within x
+            ∙ command_allowed d names file scope allows x
+            (sym (tree_do_is (List Fault) (List Fault) (f.part_step (listing d names) file) (f.body_step (listing d names) file) x) ∙ none);
         depth = omega (arith, no_depth);
         short = omega (arith, three);
       }
@@ -93,13 +94,13 @@ module _ (text : List ℕ) (names : Kind → List (List ℕ)) (has_rule : List �
     body_good : (x : BodyTree) (tokens : List Lexeme) → BodyOf Choice x tokens → IsGood BodyTree bodies most x tokens
     body_good x tokens spelled =
         let all = listed_good PartTree parts most comma (PartOf Choice) part_good x.parts tokens spelled in
-        let deep = row_of_body text (facts names) (number_by_name names) ℕ ℕ part_levels body_levels x in
-        let long = ap length (row_of_body text (facts names) (number_by_name names) (List ℕ) (List ℕ) part_code body_code x) in
+        let deep = row_of_body d.text (facts names) (number_by_name names) ℕ ℕ part_levels body_levels x in
+        let long = ap length (row_of_body d.text (facts names) (number_by_name names) (List ℕ) (List ℕ) part_code body_code x) in
         record {
           within = λ none.
-              row_of_body text (facts names) (number_by_name names) Bool Bool (part_within scope) body_within x
+              row_of_body d.text (facts names) (number_by_name names) Bool Bool (part_within scope) body_within x
               ∙ both_true (le-leb 1 (length (map parts.within x.parts)) (omega (arith, all.some, length-map x.parts parts.within)))
-              (all.within (sym (tree_body_is (List Fault) (List Fault) (f.part_step text (known names) has_rule file) (f.body_step text (known names) has_rule file) x.parts) ∙ none));
+              (all.within (sym (tree_body_is (List Fault) (List Fault) (f.part_step (listing d names) file) (f.body_step (listing d names) file) x.parts) ∙ none));
           depth = omega (arith, deep, all.depth);
           short = omega (arith, long, all.short);
         }
@@ -120,15 +121,15 @@ module _ (text : List ℕ) (names : Kind → List (List ℕ)) (has_rule : List �
 
     choice_good : (x : PartTree) (tokens : List Lexeme) → ChoiceOf (SpellsCond deepest) Branch x tokens → IsGood PartTree parts (suc most) x tokens
     choice_good x tokens (a_choice o m e guard body other u v w begins guarded then first otherwise end) =
-        let asked = cond_spelled text names has_rule file scope.guards allows.guards deepest guard u guarded in
+        let asked = cond_spelled d names file scope.guards allows.guards deepest guard u guarded in
         let one = branches body v first in
         let two = else_good other w otherwise in
         let g = guards.faults guard in
         let b = bodies.faults body in
         let h = f.else_faults (option_map bodies.faults other) in
-        let deep = row_of_if text (facts names) (number_by_name names) ℕ ℕ part_levels body_levels guard body other in
+        let deep = row_of_if d.text (facts names) (number_by_name names) ℕ ℕ part_levels body_levels guard body other in
         let most_of_both = max-le one.depth two.depth in
-        let is = ap length (row_of_if text (facts names) (number_by_name names) (List ℕ) (List ℕ) part_code body_code guard body other) in
+        let is = ap length (row_of_if d.text (facts names) (number_by_name names) (List ℕ) (List ℕ) part_code body_code guard body other) in
         let long = choice_long (guards.code guard) (bodies.code body) (else_code (option_map bodies.code other)) in
         let all = length-append u (m ∷ (v ++ (w ++ (e ∷ [])))) in
         let behind = length-append v (w ++ (e ∷ [])) in
@@ -136,10 +137,10 @@ module _ (text : List ℕ) (names : Kind → List (List ℕ)) (has_rule : List �
         record {
           within = λ none.
               let parts_none : g ++ b ++ h ≡ [] =
-              sym (tree_if_is (List Fault) (List Fault) (f.part_step text (known names) has_rule file) (f.body_step text (known names) has_rule file) guard body other) ∙ none
+              sym (tree_if_is (List Fault) (List Fault) (f.part_step (listing d names) file) (f.body_step (listing d names) file) guard body other) ∙ none
               in
               let front = no_front (g ++ b) h parts_none in
-              row_of_if text (facts names) (number_by_name names) Bool Bool (part_within scope) body_within guard body other
+              row_of_if d.text (facts names) (number_by_name names) Bool Bool (part_within scope) body_within guard body other
               ∙ both_true (asked.within (no_front g b front)) (both_true (le-leb (guards.depth guard) 8 asked.depth)
               (both_true (one.within (no_back g b front)) (two.within (no_back (g ++ b) h parts_none))));
           depth = omega (arith, deep, most_of_both);
@@ -152,7 +153,7 @@ module _ (text : List ℕ) (names : Kind → List (List ℕ)) (has_rule : List �
       choice_good (SpellsBodyBy deepest choices) choices (body_good (SpellsChoice deepest choices) choices (choice_spelled choices)) x tokens spelled
 
   -- a body that few tokens spell is well where it has no faults
-  pub body_well : (x : BodyTree) → IsSpelledBody x → f.body_faults text (known names) has_rule file x ≡ [] → IsWellBody scope (body_row x)
+  pub body_well : (x : BodyTree) → IsSpelledBody x → f.body_faults (listing d names) file x ≡ [] → IsWellBody scope (body_row x)
   body_well x spelled none =
       let good = body_good (SpellsChoice deepest deepest) deepest (choice_spelled deepest) x spelled.tokens spelled.spelled in
       record { within = good.within none; depth = good.depth; short = omega (arith, good.short, spelled.few) }
@@ -167,42 +168,42 @@ module _ (text : List ℕ) (names : Kind → List (List ℕ)) (has_rule : List �
   as_parts xs tokens (last x u spells) = last (p.Do x) u (a_do x u spells)
   as_parts xs tokens (and_more x ys m u v spells between rest) = and_more (p.Do x) (as_body ys).parts m u v (a_do x u spells) between (as_parts ys v rest)
 
-  command_faults_are : (xs : List CommandTree) → joined (map parts.faults (as_body xs).parts) ≡ joined (map (f.command_faults text (known names) has_rule file) xs)
+  command_faults_are : (xs : List CommandTree) → one_by_one (map parts.faults (as_body xs).parts) ≡ one_by_one (map (f.command_faults (listing d names) file []) xs)
   command_faults_are [] = refl
   command_faults_are (x ∷ xs) =
-      ap (λ faults. faults ++ joined (map parts.faults (as_body xs).parts)) (tree_do_is (List Fault) (List Fault) (f.part_step text (known names) has_rule file) (f.body_step text (known names) has_rule file) x)
-      ∙ ap (λ faults. f.command_faults text (known names) has_rule file x ++ faults) (command_faults_are xs)
+      ap (λ faults. faults ++ one_by_one (map parts.faults (as_body xs).parts)) (tree_do_is (List Fault) (List Fault) (f.part_step (listing d names) file) (f.body_step (listing d names) file) x)
+      ∙ ap (λ faults. f.command_faults (listing d names) file [] x ++ faults) (command_faults_are xs)
 
-  command_rows_are : (xs : List CommandTree) → map part_row (as_body xs).parts ≡ map (λ command. part.Do command) (map (r.command_row text (facts names) (number_by_name names)) xs)
+  command_rows_are : (xs : List CommandTree) → map part_row (as_body xs).parts ≡ map (λ command. part.Do command) (map (r.command_row d.text (facts names) (number_by_name names)) xs)
   command_rows_are [] = refl
   command_rows_are (x ∷ xs) =
-      ap (λ row. row ∷ map part_row (as_body xs).parts) (tree_do_is BodyItem Body (r.part_step text (facts names) (number_by_name names)) (r.body_step text (facts names) (number_by_name names)) x)
-      ∙ ap (λ rows. part.Do (r.command_row text (facts names) (number_by_name names) x) ∷ rows) (command_rows_are xs)
+      ap (λ row. row ∷ map part_row (as_body xs).parts) (tree_do_is BodyItem Body (r.part_step d.text (facts names) (number_by_name names)) (r.body_step d.text (facts names) (number_by_name names)) x)
+      ∙ ap (λ rows. part.Do (r.command_row d.text (facts names) (number_by_name names) x) ∷ rows) (command_rows_are xs)
 
   -- the first command of commands without faults has none, also where more is asked of its name
-  first_command : (others : List (Bool × ℕ)) (x : CommandTree) → f.named_faults text (known names) has_rule file others x.name ≡ [] → f.use_faults text (known names) has_rule file x.name ≡ []
+  first_command : (others : List (Bool × ℕ)) (x : CommandTree) → f.named_faults (listing d names) file others x.name ≡ [] → f.named_faults (listing d names) file [] x.name ≡ []
   first_command others x none =
-      let called = characters text x.name in
+      let called = characters d.text x.name in
       let test = not (known names (kind_of called) called) in
       ap (λ b. at x.name ((b, unknown) ∷ [])) (first_fine x.name test unknown others none).0
 
-  no_commands : (others : List (Bool × ℕ)) (xs : List CommandTree) → f.commands_faults text (known names) has_rule file others xs ≡ [] → joined (map (f.command_faults text (known names) has_rule file) xs) ≡ []
+  no_commands : (others : List (Bool × ℕ)) (xs : List CommandTree) → f.commands_faults (listing d names) file others xs ≡ [] → one_by_one (map (f.command_faults (listing d names) file []) xs) ≡ []
   no_commands others [] none = refl
   no_commands others (x ∷ xs) none =
-      let name = f.named_faults text (known names) has_rule file others x.name in
-      let word = f.command_word_faults text (known names) has_rule file (characters text x.name) x.word in
-      let rest = joined (map (f.command_faults text (known names) has_rule file) xs) in
+      let name = f.named_faults (listing d names) file others x.name in
+      let word = f.command_word_faults (listing d names) file (characters d.text x.name) x.word in
+      let rest = one_by_one (map (f.command_faults (listing d names) file []) xs) in
       let front = no_front (name ++ word) rest none in
       ap (λ faults. faults ++ word ++ rest) (first_command others x (no_front name word front)) ∙ ap (λ faults. faults ++ rest) (no_back name word front) ∙ no_back (name ++ word) rest none
 
   -- commands that few tokens spell are well where they have no faults
-  pub commands_well : (others : List (Bool × ℕ)) (xs : List CommandTree) → AreSpelledCommands xs → f.commands_faults text (known names) has_rule file others xs ≡ []
-      → IsWellBody scope (body_of_commands (map (r.command_row text (facts names) (number_by_name names)) xs))
+  pub commands_well : (others : List (Bool × ℕ)) (xs : List CommandTree) → AreSpelledCommands xs → f.commands_faults (listing d names) file others xs ≡ []
+      → IsWellBody scope (body_of_commands (map (r.command_row d.text (facts names) (number_by_name names)) xs))
   commands_well others xs spelled none =
-      let fine = tree_body_is (List Fault) (List Fault) (f.part_step text (known names) has_rule file) (f.body_step text (known names) has_rule file) (as_body xs).parts
+      let fine = tree_body_is (List Fault) (List Fault) (f.part_step (listing d names) file) (f.body_step (listing d names) file) (as_body xs).parts
       ∙ command_faults_are xs ∙ no_commands others xs none
       in
-      let rows = tree_body_is BodyItem Body (r.part_step text (facts names) (number_by_name names)) (r.body_step text (facts names) (number_by_name names)) (as_body xs).parts
+      let rows = tree_body_is BodyItem Body (r.part_step d.text (facts names) (number_by_name names)) (r.body_step d.text (facts names) (number_by_name names)) (as_body xs).parts
       ∙ ap (λ items. record { items = items }) (command_rows_are xs)
       in
       subst (IsWellBody scope) rows (body_well (as_body xs) (record { tokens = spelled.tokens; spelled = as_parts xs spelled.tokens spelled.spelled; few = spelled.few }) fine)

@@ -20,6 +20,7 @@ use Rattle.ssi_terms.specs.Tests.{spot_of}
 use Rattle.ssi_names.specs.Bodies as f
 use Rattle.ssi_names.specs.BodyRows as r
 use Rattle.ssi_names.specs.declared.fault.Fault.{Fault}
+use Rattle.ssi_names.specs.Declarations.{Declared}
 use Rattle.ssi_names.specs.declared.rule_file.RuleFile.{RuleFile}
 use Rattle.ssi_names.specs.Formed.{IsSpelledCond}
 use Rattle.ssi_names.specs.Texts.{characters}
@@ -28,21 +29,21 @@ use Rattle.ssi_names.specs.Words.{kind_of, lie_of_word}
 use Rattle.ssi_names.proofs.CondTrees.{tree_cond_is, tree_test_is, tree_bit_is, tree_any_is}
 use Rattle.ssi_names.proofs.GoodTrees.{Measures, IsGood, listed_good, several_good}
 use Rattle.ssi_names.proofs.RowFolds.{row_of_test, row_of_bit, row_of_any, row_of_cond}
-use Rattle.ssi_names.proofs.WellWords.{AllowsConds, known, facts, test_allowed, bit_allowed}
+use Rattle.ssi_names.proofs.WellWords.{AllowsConds, listing, facts, test_allowed, bit_allowed}
 
--- a condition, by the text, by the names of each kind, by which lies of points have a rule, by its file, and by what it may name
-module _ (text : List ℕ) (names : Kind → List (List ℕ)) (has_rule : List ℕ → Bool → Bool) (file : RuleFile) (scope : CondScope) (allows : AllowsConds text names has_rule file scope) where
+-- a condition, by what is declared, by the names of each kind, by its file, and by what it may name
+module _ (d : Declared) (names : Kind → List (List ℕ)) (file : RuleFile) (scope : CondScope) (allows : AllowsConds d names file scope) where
   -- the row of an item and of a condition
   abbrev item_row : ItemTree → CondItem
-  item_row = r.item_row text (facts names) (number_by_name names)
+  item_row = r.item_row d.text (facts names) (number_by_name names)
 
   abbrev cond_row : CondTree → Cond
-  cond_row = r.cond_row text (facts names) (number_by_name names)
+  cond_row = r.cond_row d.text (facts names) (number_by_name names)
 
   -- what is measured of them
   abbrev items : Measures ItemTree
   items = record {
-    faults = f.item_faults text (known names) has_rule file;
+    faults = f.item_faults (listing d names) file;
     within = λ item. is_item_within scope (item_row item);
     depth = λ item. item_depth (item_row item);
     code = λ item. code_of_item (item_row item);
@@ -50,18 +51,18 @@ module _ (text : List ℕ) (names : Kind → List (List ℕ)) (has_rule : List �
 
   abbrev pub conds : Measures CondTree
   conds = record {
-    faults = f.cond_faults text (known names) has_rule file;
+    faults = f.cond_faults (listing d names) file;
     within = λ cond. is_within scope (cond_row cond);
     depth = λ cond. cond_depth (cond_row cond);
     code = λ cond. code_of_cond (cond_row cond);
   }
 
   -- a test has no groups and three bytes of code
-  test_depth : (name : List ℕ) (said : ℕ × Bool) (lie : Option Bool) → item_depth (r.test_by text (facts names) (number_by_name names) name said lie) ≡ 0
+  test_depth : (name : List ℕ) (said : ℕ × Bool) (lie : Option Bool) → item_depth (r.test_by d.text (facts names) (number_by_name names) name said lie) ≡ 0
   test_depth name said None = lit_is ℕ ℕ item_levels cond_levels said.0 said.1
   test_depth name said (Some lie) = free_is ℕ ℕ item_levels cond_levels (number_by_name names name) lie
 
-  test_code : (name : List ℕ) (said : ℕ × Bool) (lie : Option Bool) → length (code_of_item (r.test_by text (facts names) (number_by_name names) name said lie)) ≡ 3
+  test_code : (name : List ℕ) (said : ℕ × Bool) (lie : Option Bool) → length (code_of_item (r.test_by d.text (facts names) (number_by_name names) name said lie)) ≡ 3
   test_code name said None = ap length (lit_is (List ℕ) (List ℕ) item_code cond_code said.0 said.1)
   test_code name said (Some lie) = ap length (free_is (List ℕ) (List ℕ) item_code cond_code (number_by_name names name) lie)
 
@@ -69,27 +70,27 @@ module _ (text : List ℕ) (names : Kind → List (List ℕ)) (has_rule : List �
   module _ (Group : List CondTree → List Lexeme → Type 0) (most : ℕ) (groups : (cs : List CondTree) (tokens : List Lexeme) → Group cs tokens → IsGood ItemTree items most (t.Any cs) tokens) where
     item_good : (x : ItemTree) (tokens : List Lexeme) → ItemOf Group x tokens → IsGood ItemTree items most x tokens
     item_good x tokens (a_test n w name word) =
-        let called = characters text (spot_of n) in
-        let said = r.fact_at text (facts names) (number_by_name names) (spot_of n) (spot_of w) in
-        let lie = lie_of_word (kind_of called) (characters text (spot_of w)) in
-        let no_depth = row_of_test text (facts names) (number_by_name names) ℕ ℕ item_levels cond_levels (spot_of n) (spot_of w) ∙ test_depth called said lie in
-        let three = ap length (row_of_test text (facts names) (number_by_name names) (List ℕ) (List ℕ) item_code cond_code (spot_of n) (spot_of w)) ∙ test_code called said lie in
+        let called = characters d.text (spot_of n) in
+        let said = r.fact_at d.text (facts names) (number_by_name names) (spot_of n) (spot_of w) in
+        let lie = lie_of_word (kind_of called) (characters d.text (spot_of w)) in
+        let no_depth = row_of_test d.text (facts names) (number_by_name names) ℕ ℕ item_levels cond_levels (spot_of n) (spot_of w) ∙ test_depth called said lie in
+        let three = ap length (row_of_test d.text (facts names) (number_by_name names) (List ℕ) (List ℕ) item_code cond_code (spot_of n) (spot_of w)) ∙ test_code called said lie in
         record {
           within = λ none.
-              row_of_test text (facts names) (number_by_name names) Bool Bool (item_within scope) cond_within (spot_of n) (spot_of w)
-              ∙ test_allowed text names has_rule file scope allows (spot_of n) (spot_of w)
-              (sym (tree_test_is (List Fault) (List Fault) (f.item_step text (known names) has_rule file) (f.cond_step text (known names) has_rule file) (spot_of n) (spot_of w)) ∙ none);
+              row_of_test d.text (facts names) (number_by_name names) Bool Bool (item_within scope) cond_within (spot_of n) (spot_of w)
+              ∙ test_allowed d names file scope allows (spot_of n) (spot_of w)
+              (sym (tree_test_is (List Fault) (List Fault) (f.item_step (listing d names) file) (f.cond_step (listing d names) file) (spot_of n) (spot_of w)) ∙ none);
           depth = omega (arith, no_depth);
           short = omega (arith, three);
         }
     item_good x tokens (a_bit n w number word) =
-        let no_depth = row_of_bit text (facts names) (number_by_name names) ℕ ℕ item_levels cond_levels (spot_of n) (spot_of w) in
-        let three = ap length (row_of_bit text (facts names) (number_by_name names) (List ℕ) (List ℕ) item_code cond_code (spot_of n) (spot_of w)) in
+        let no_depth = row_of_bit d.text (facts names) (number_by_name names) ℕ ℕ item_levels cond_levels (spot_of n) (spot_of w) in
+        let three = ap length (row_of_bit d.text (facts names) (number_by_name names) (List ℕ) (List ℕ) item_code cond_code (spot_of n) (spot_of w)) in
         record {
           within = λ none.
-              row_of_bit text (facts names) (number_by_name names) Bool Bool (item_within scope) cond_within (spot_of n) (spot_of w)
-              ∙ bit_allowed text names has_rule file scope allows (spot_of n)
-              (sym (tree_bit_is (List Fault) (List Fault) (f.item_step text (known names) has_rule file) (f.cond_step text (known names) has_rule file) (spot_of n) (spot_of w)) ∙ none);
+              row_of_bit d.text (facts names) (number_by_name names) Bool Bool (item_within scope) cond_within (spot_of n) (spot_of w)
+              ∙ bit_allowed d names file scope allows (spot_of n)
+              (sym (tree_bit_is (List Fault) (List Fault) (f.item_step (listing d names) file) (f.cond_step (listing d names) file) (spot_of n) (spot_of w)) ∙ none);
           depth = omega (arith, no_depth);
           short = omega (arith, three);
         }
@@ -99,13 +100,13 @@ module _ (text : List ℕ) (names : Kind → List (List ℕ)) (has_rule : List �
     cond_good : (x : CondTree) (tokens : List Lexeme) → CondOf Group x tokens → IsGood CondTree conds most x tokens
     cond_good x tokens spelled =
         let all = listed_good ItemTree items most comma (ItemOf Group) item_good x.items tokens spelled in
-        let deep = row_of_cond text (facts names) (number_by_name names) ℕ ℕ item_levels cond_levels x in
-        let long = ap length (row_of_cond text (facts names) (number_by_name names) (List ℕ) (List ℕ) item_code cond_code x) in
+        let deep = row_of_cond d.text (facts names) (number_by_name names) ℕ ℕ item_levels cond_levels x in
+        let long = ap length (row_of_cond d.text (facts names) (number_by_name names) (List ℕ) (List ℕ) item_code cond_code x) in
         record {
           within = λ none.
-              row_of_cond text (facts names) (number_by_name names) Bool Bool (item_within scope) cond_within x
+              row_of_cond d.text (facts names) (number_by_name names) Bool Bool (item_within scope) cond_within x
               ∙ both_true (le-leb 1 (length (map items.within x.items)) (omega (arith, all.some, length-map x.items items.within)))
-              (all.within (sym (tree_cond_is (List Fault) (List Fault) (f.item_step text (known names) has_rule file) (f.cond_step text (known names) has_rule file) x.items) ∙ none));
+              (all.within (sym (tree_cond_is (List Fault) (List Fault) (f.item_step (listing d names) file) (f.cond_step (listing d names) file) x.items) ∙ none));
           depth = omega (arith, deep, all.depth);
           short = omega (arith, long, all.short);
         }
@@ -115,13 +116,13 @@ module _ (text : List ℕ) (names : Kind → List (List ℕ)) (has_rule : List �
       → (cs : List CondTree) (tokens : List Lexeme) → GroupOf Alternative cs tokens → IsGood ItemTree items (suc most) (t.Any cs) tokens
   group_good Alternative most each cs tokens (the_alternatives o e alternatives u opens between closes) =
       let all = several_good CondTree conds most (word (codes "or")) Alternative each alternatives u between in
-      let deep = row_of_any text (facts names) (number_by_name names) ℕ ℕ item_levels cond_levels alternatives in
-      let long = ap length (row_of_any text (facts names) (number_by_name names) (List ℕ) (List ℕ) item_code cond_code alternatives) in
+      let deep = row_of_any d.text (facts names) (number_by_name names) ℕ ℕ item_levels cond_levels alternatives in
+      let long = ap length (row_of_any d.text (facts names) (number_by_name names) (List ℕ) (List ℕ) item_code cond_code alternatives) in
       record {
         within = λ none.
-            row_of_any text (facts names) (number_by_name names) Bool Bool (item_within scope) cond_within alternatives
+            row_of_any d.text (facts names) (number_by_name names) Bool Bool (item_within scope) cond_within alternatives
             ∙ both_true (le-leb 2 (length (map conds.within alternatives)) (omega (arith, all.1, length-map alternatives conds.within)))
-            (all.0.within (sym (tree_any_is (List Fault) (List Fault) (f.item_step text (known names) has_rule file) (f.cond_step text (known names) has_rule file) alternatives) ∙ none));
+            (all.0.within (sym (tree_any_is (List Fault) (List Fault) (f.item_step (listing d names) file) (f.cond_step (listing d names) file) alternatives) ∙ none));
         depth = omega (arith, deep, all.0.depth);
         short = omega (arith, long, all.0.pieces, length-append u (e ∷ []));
       }
@@ -135,7 +136,7 @@ module _ (text : List ℕ) (names : Kind → List (List ℕ)) (has_rule : List �
   cond_spelled groups = cond_good (SpellsGroup groups) groups (group_spelled groups)
 
   -- one that few tokens spell is well where it has no faults
-  pub cond_well : (x : CondTree) → IsSpelledCond x → f.cond_faults text (known names) has_rule file x ≡ [] → IsWellCond scope (cond_row x)
+  pub cond_well : (x : CondTree) → IsSpelledCond x → f.cond_faults (listing d names) file x ≡ [] → IsWellCond scope (cond_row x)
   cond_well x spelled none =
       let good = cond_spelled deepest x spelled.tokens spelled.spelled in
       record { within = good.within none; depth = good.depth; short = omega (arith, good.short, spelled.few) }

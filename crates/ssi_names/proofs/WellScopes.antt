@@ -26,7 +26,7 @@ use Rattle.ssi_terms.specs.declared.tree.CondTree.{CondTree}
 use Rattle.ssi_terms.specs.Trees.{PointsText, RouteText, SubText}
 use Rattle.ssi_names.specs.declared.rule_file.RuleFile.{RuleFile}
 use Rattle.ssi_names.specs.declared.rule_file.RuleFile.TheVariants.{Requests, Moves, Statements, Outputs, Inputs}
-use Rattle.ssi_names.specs.Declarations.{declared, has_rule_in, is_for_lie}
+use Rattle.ssi_names.specs.Declarations.{declared, declared_in, has_rule_in, is_for_lie}
 use Rattle.ssi_names.specs.NameLists.{is_among}
 use Rattle.ssi_names.specs.Rows.{condition, counts_by, move_row, number_by_name, points_row, request_row, resolved, route_row, sub_row}
 use Rattle.ssi_names.specs.SourceTexts.{SourceText}
@@ -147,10 +147,10 @@ fact_stands is_kind counts kind index within = ap (is_fact_of is_kind) (in_order
 
 -- a text and the tree of its source
 module _ (text : List ℕ) (tree : SourceText) where
-  pub moves_allow : AllowsConds text (declared text tree) (has_rule_in text tree) Moves (scope_of_moves (resolved text tree))
+  pub moves_allow : AllowsConds (declared_in text tree) (declared text tree) Moves (scope_of_moves (resolved text tree))
   moves_allow = record { facts = ap fact_count_of (sym (counts_are text tree)); bits = λ is. absurd cc; asks = λ name lie elsewhere points found ruled. absurd cc }
 
-  pub conds_allow : (file : RuleFile) (bits : ℕ) → (is_of_inputs file ≡ true → bits ≡ 8) → AllowsConds text (declared text tree) (has_rule_in text tree) file (scope_of_conds (resolved text tree) bits)
+  pub conds_allow : (file : RuleFile) (bits : ℕ) → (is_of_inputs file ≡ true → bits ≡ 8) → AllowsConds (declared_in text tree) (declared text tree) file (scope_of_conds (resolved text tree) bits)
   conds_allow file bits eight = record { facts = ap fact_count_of (sym (counts_are text tree)); bits = eight; asks = λ name lie elsewhere. asked text tree name lie }
 
   commands_allow : (is_kind : FactKind → Bool) (fact : FactKind) (index : ℕ) → index < count_of (counts_by (declared text tree)) fact → is_kind fact ≡ true
@@ -159,14 +159,14 @@ module _ (text : List ℕ) (tree : SourceText) where
       ap (λ counts. is_number_of is_kind counts (fact_number_of (counts_by (declared text tree)) fact index)) (sym (counts_are text tree))
       ∙ fact_stands is_kind (counts_by (declared text tree)) fact index within ∙ is
 
-  pub requests_allow : AllowsBodies text (declared text tree) (has_rule_in text tree) Requests (scope_of_decisions (resolved text tree))
+  pub requests_allow : AllowsBodies (declared_in text tree) (declared text tree) Requests (scope_of_decisions (resolved text tree))
   requests_allow = record { guards = conds_allow Requests 0 (λ is. absurd cc); commands = commands_allow is_decided }
 
-  pub statements_allow : AllowsBodies text (declared text tree) (has_rule_in text tree) Statements (scope_of_decisions (resolved text tree))
+  pub statements_allow : AllowsBodies (declared_in text tree) (declared text tree) Statements (scope_of_decisions (resolved text tree))
   statements_allow = record { guards = conds_allow Statements 0 (λ is. absurd cc); commands = commands_allow is_decided }
 
-  pub outputs_allow : AllowsConds text (declared text tree) (has_rule_in text tree) Outputs (scope_of_conds (resolved text tree) 0)
+  pub outputs_allow : AllowsConds (declared_in text tree) (declared text tree) Outputs (scope_of_conds (resolved text tree) 0)
   outputs_allow = conds_allow Outputs 0 (λ is. absurd cc)
 
-  pub inputs_allow : AllowsBodies text (declared text tree) (has_rule_in text tree) Inputs (scope_of_inputs (resolved text tree))
+  pub inputs_allow : AllowsBodies (declared_in text tree) (declared text tree) Inputs (scope_of_inputs (resolved text tree))
   inputs_allow = record { guards = conds_allow Inputs 8 (λ is. refl); commands = commands_allow is_reported }

@@ -21,6 +21,7 @@ use Rattle.ssi_names.specs.Bodies as f
 use Rattle.ssi_names.specs.BodyRows as r
 use Rattle.ssi_names.specs.Codes.{unknown, wrong_word, not_in_this_file, no_pfm, bad_pin, free_test_in_pfm}
 use Rattle.ssi_names.specs.declared.rule_file.RuleFile.{RuleFile}
+use Rattle.ssi_names.specs.Declarations.{Declared}
 use Rattle.ssi_names.specs.NameLists.{is_among}
 use Rattle.ssi_names.specs.Rows.{counts_by, number_at, fact_by_name, number_by_name}
 use Rattle.ssi_names.specs.Texts.{characters, number}
@@ -106,13 +107,17 @@ known names kind name = is_among name (names kind)
 abbrev pub facts : (Kind → List (List ℕ)) → FactKind → List ℕ → ℕ
 facts names = fact_by_name (counts_by names) names
 
--- by the text, by the names of each kind, and by which lies of points have a rule
-module _ (text : List ℕ) (names : Kind → List (List ℕ)) (has_rule : List ℕ → Bool → Bool) where
+-- what is declared where these are the names of each kind
+abbrev pub listing : Declared → (Kind → List (List ℕ)) → Declared
+listing d names = record d { is_declared = known names }
+
+-- by what is declared, and by the names of each kind
+module _ (d : Declared) (names : Kind → List (List ℕ)) where
   -- what conditions of a file may name: the facts that there are, in IPT the bits of a report, and in each file but PFM declared points with a rule for the lie
   pub record AllowsConds (file : RuleFile) (scope : CondScope) : Type 0 where
     pub facts : scope.facts ≡ fact_count_of (counts_by names)
     pub bits : is_of_inputs file ≡ true → scope.bits ≡ 8
-    pub asks : (name : List ℕ) (lie : Bool) → is_of_moves file ≡ false → kind_of name ≡ Points → is_among name (names Points) ≡ true → has_rule name lie ≡ true
+    pub asks : (name : List ℕ) (lie : Bool) → is_of_moves file ≡ false → kind_of name ≡ Points → is_among name (names Points) ≡ true → d.has_rule name lie ≡ true
         → scope.may_ask (number_by_name names name) lie ≡ true
 
   -- what bodies of a file may name: in guards as conditions; and each fact of the file may be commanded
@@ -130,20 +135,20 @@ module _ (text : List ℕ) (names : Kind → List (List ℕ)) (has_rule : List �
       (place, omega (arith, place_below (names kind) name found, long), ap (number_at (counts_by names) said.0) (place_is (names kind) name found))
 
   -- a name without a fault is declared
-  use_known : (file : RuleFile) (others : List (Bool × ℕ)) (name : Spot) → f.named_faults text (known names) has_rule file others name ≡ [] → known names (kind_of (characters text name)) (characters text name) ≡ true
+  use_known : (file : RuleFile) (others : List (Bool × ℕ)) (name : Spot) → f.named_faults (listing d names) file others name ≡ [] → known names (kind_of (characters d.text name)) (characters d.text name) ≡ true
   use_known file others name none =
-      let test = known names (kind_of (characters text name)) (characters text name) in
+      let test = known names (kind_of (characters d.text name)) (characters d.text name) in
       not-false test (first_fine name (not test) unknown others none).0
 
   module _ (file : RuleFile) (scope : CondScope) (allows : AllowsConds file scope) where
     -- a test of a fact that there is, or of points that have a rule for the lie
     test_by_lie : (name : List ℕ) (said : Option (FactKind × Bool)) (lie : Option Bool) → known names (kind_of name) name ≡ true
         → ((s : FactKind × Bool) → said ≡ Some s → identity_of s.0 ≡ kind_of name) → ((l : Bool) → lie ≡ Some l → kind_of name ≡ Points)
-        → (is_some said || is_some lie) ≡ true → (is_of_moves file && is_some lie) ≡ false → f.lacks_rule (has_rule name) lie ≡ false
-        → is_item_within scope (r.test_by text (facts names) (number_by_name names) name (r.said_of text (facts names) (number_by_name names) name said) lie) ≡ true
+        → (is_some said || is_some lie) ≡ true → (is_of_moves file && is_some lie) ≡ false → f.lacks_rule (d.has_rule name) lie ≡ false
+        → is_item_within scope (r.test_by d.text (facts names) (number_by_name names) name (r.said_of d.text (facts names) (number_by_name names) name said) lie) ≡ true
     test_by_lie name said (Some lie) found own points is elsewhere ruled =
         free_is Bool Bool (item_within scope) cond_within (number_by_name names name) lie
-        ∙ allows.asks name lie (first_false (is_of_moves file) true refl elsewhere) (points lie refl) (subst (λ k. known names k name ≡ true) (points lie refl) found) (not-false (has_rule name lie) ruled)
+        ∙ allows.asks name lie (first_false (is_of_moves file) true refl elsewhere) (points lie refl) (subst (λ k. known names k name ≡ true) (points lie refl) found) (not-false (d.has_rule name lie) ruled)
     test_by_lie name None None found own points is elsewhere ruled = absurd cc
     test_by_lie name (Some s) None found own points is elsewhere ruled =
         let fact = fact_is name s found (own s refl) in
@@ -152,42 +157,42 @@ module _ (text : List ℕ) (names : Kind → List (List ℕ)) (has_rule : List �
         ∙ lt-ltb (facts names s.0 name) scope.facts (omega (arith, below, fact.2, allows.facts))
 
     -- a test without faults is allowed
-    pub test_allowed : (name word : Spot) → f.use_faults text (known names) has_rule file name ++ f.test_word_faults text (known names) has_rule file (characters text name) word ≡ []
-        → is_item_within scope (r.test_row text (facts names) (number_by_name names) name word) ≡ true
+    pub test_allowed : (name word : Spot) → f.test_faults (listing d names) file name word ≡ []
+        → is_item_within scope (r.test_row d.text (facts names) (number_by_name names) name word) ≡ true
     test_allowed name word none =
-        let called = characters text name in
+        let called = characters d.text name in
         let kind = kind_of called in
-        let said = characters text word in
+        let said = characters d.text word in
         let lie = lie_of_word kind said in
-        let before = f.use_faults text (known names) has_rule file name in
-        let behind = f.test_word_faults text (known names) has_rule file called word in
+        let before = f.named_faults (listing d names) file [] name in
+        let behind = f.test_word_faults (listing d names) file called word in
         let asks = is_of_moves file && is_some lie in
-        let unruled = known names kind called && f.lacks_rule (has_rule called) lie in
+        let unruled = known names kind called && f.lacks_rule (d.has_rule called) lie in
         let found = use_known file [] name (no_front before behind none) in
         let first = first_fine word (not (is_test kind said)) wrong_word ((asks, free_test_in_pfm) ∷ (unruled, no_pfm) ∷ []) (no_back before behind none) in
         let second = first_fine word asks free_test_in_pfm ((unruled, no_pfm) ∷ []) first.1 in
         let third = first_fine word unruled no_pfm [] second.1 in
         test_by_lie called (fact_of_word kind said) lie found (own_fact kind said) (asked_points kind said) (not-false (is_test kind said) first.0) second.0
-        (second_false (known names kind called) (f.lacks_rule (has_rule called) lie) found third.0)
+        (second_false (known names kind called) (f.lacks_rule (d.has_rule called) lie) found third.0)
 
     -- so is a bit
-    pub bit_allowed : (bit : Spot) → f.bit_faults text (known names) has_rule file bit ≡ [] → nat_lt (r.bit_number text (facts names) (number_by_name names) bit) scope.bits ≡ true
+    pub bit_allowed : (bit : Spot) → f.bit_faults (listing d names) file bit ≡ [] → nat_lt (r.bit_number d.text (facts names) (number_by_name names) bit) scope.bits ≡ true
     bit_allowed bit none =
-        let n = number text bit in
+        let n = number d.text bit in
         let first = first_fine bit (not (is_of_inputs file)) not_in_this_file ((nat_le 8 n, bad_pin) ∷ []) none in
         let eight = allows.bits (not-false (is_of_inputs file) first.0) in
         let below : n < 8 = leb-false 8 n (first_fine bit (nat_le 8 n) bad_pin [] first.1).0 in
         lt-ltb (min n 8) scope.bits (omega arith)
 
   -- a command without faults is allowed
-  pub command_allowed : (file : RuleFile) (scope : BodyScope) → AllowsBodies file scope → (command : CommandTree) → f.command_faults text (known names) has_rule file command ≡ []
-      → scope.may_command (r.command_row text (facts names) (number_by_name names) command).fact ≡ true
+  pub command_allowed : (file : RuleFile) (scope : BodyScope) → AllowsBodies file scope → (command : CommandTree) → f.command_faults (listing d names) file [] command ≡ []
+      → scope.may_command (r.command_row d.text (facts names) (number_by_name names) command).fact ≡ true
   command_allowed file scope allows command none =
-      let called = characters text command.name in
+      let called = characters d.text command.name in
       let kind = kind_of called in
-      let said = characters text command.word in
-      let before = f.use_faults text (known names) has_rule file command.name in
-      let behind = f.command_word_faults text (known names) has_rule file called command.word in
+      let said = characters d.text command.word in
+      let before = f.named_faults (listing d names) file [] command.name in
+      let behind = f.command_word_faults (listing d names) file called command.word in
       let found = use_known file [] command.name (no_front before behind none) in
       let elsewhere = not (may_command file (fact_of_word kind said)) in
       let first = first_fine command.word (not (is_some (fact_of_word kind said))) wrong_word ((elsewhere, not_in_this_file) ∷ []) (no_back before behind none) in
@@ -195,5 +200,5 @@ module _ (text : List ℕ) (names : Kind → List (List ℕ)) (has_rule : List �
       let some = some_said (fact_of_word kind said) (not-false (is_some (fact_of_word kind said)) first.0) in
       let fact = fact_is called some.0 found (own_fact kind said some.0 some.1) in
       let allowed = ap (may_command file) (sym some.1) ∙ not-false (may_command file (fact_of_word kind said)) second.0 in
-      let is = ap (λ s. (r.said_of text (facts names) (number_by_name names) called s).0) some.1 ∙ fact.2 in
+      let is = ap (λ s. (r.said_of d.text (facts names) (number_by_name names) called s).0) some.1 ∙ fact.2 in
       ap scope.may_command is ∙ allows.commands some.0.0 fact.0 fact.1 allowed

@@ -62,3 +62,22 @@ addresses_of text modules = map (λ entry. characters text entry.address) module
 -- whether an entry of TFM has the address
 abbrev pub has_module_in : List ℕ → SourceText → List ℕ → Bool
 has_module_in text tree address = is_among address (addresses_of text tree.identities.modules)
+
+-- what is known of a source where its entries are judged: its text; whether a name of a kind is declared; whether a module names
+-- it; whether a rule says when points are free to go to a lie, true for reverse; and whether a module has an address
+pub record Declared : Type 0 where
+  pub text : List ℕ
+  pub is_declared : Kind → List ℕ → Bool
+  pub is_wired : List ℕ → Bool
+  pub has_rule : List ℕ → Bool → Bool
+  pub has_module : List ℕ → Bool
+
+-- what the text with this tree declares
+abbrev pub declared_in : List ℕ → SourceText → Declared
+declared_in text tree = record {
+  text = text;
+  is_declared = is_declared_in text tree;
+  is_wired = is_wired_in text tree;
+  has_rule = has_rule_in text tree;
+  has_module = has_module_in text tree;
+}

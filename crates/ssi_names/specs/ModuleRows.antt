@@ -1,19 +1,16 @@
 -- Trackside modules with numbers of identities.
-use Rattle.std.specs.Prelude.{ℕ, if◌then◌else◌, codes, List, fold, replicate, slice_set, Option, Some, None}
+use Rattle.std.specs.Prelude.{ℕ, List, fold, replicate, slice_set, Option, Some, None}
 use Rattle.std.specs.List.{position_or_len}
 use Rattle.std.specs.Str.{bytes_eq}
 use Rattle.ssi_identities.specs.declared.fact.Kind.{Kind}
 use Rattle.ssi_identities.specs.declared.rule.Cond.{Cond}
 use Rattle.ssi_identities.specs.declared.rule.Body.{Body}
 use Rattle.ssi_identities.specs.DataSets.{ModulePlan}
+use Rattle.ssi_identities.specs.Wells.{wired_kind, pin_count}
 use Rattle.ssi_terms.specs.declared.tree.Spot.{Spot}
 use Rattle.ssi_terms.specs.Trees.{ModuleText}
-use Rattle.ssi_names.specs.Faults.{kind_at_pins, count_of_pins}
 use Rattle.ssi_names.specs.Texts.{characters, number}
-
--- the number of a module's kind: 0 of points, 1 of signals, 2 of tracks
-abbrev pub number_of_kind : List ℕ → ℕ
-number_of_kind word = if bytes_eq word (codes "points") then 0 else if bytes_eq word (codes "signal") then 1 else 2
+use Rattle.ssi_names.specs.Words.{module_kind_of}
 
 module _ (text : List ℕ) where
   -- the pins of a module, of which one more is wired to an identity
@@ -27,11 +24,11 @@ module _ (text : List ℕ) where
   -- a module, with the bits that are sent to it and what its reports do
   abbrev pub module_by : (Kind → List (List ℕ)) → List (Option Cond) → Option Body → ModuleText → ModulePlan
   module_by names outputs input entry =
-      let word = characters text entry.kind in
+      let kind = module_kind_of (characters text entry.kind) in
       record {
         address = number text entry.address;
-        kind = number_of_kind word;
-        pins = pins_row (names (kind_at_pins word)) (count_of_pins word) entry.pins;
+        kind = kind;
+        pins = pins_row (names (wired_kind kind)) (pin_count kind) entry.pins;
         outputs = outputs;
         input = input;
       }

@@ -14,6 +14,6 @@ in_order judge earlier [] = []
 in_order judge earlier (x ∷ xs) = judge earlier x ++ in_order judge (earlier ++ x ∷ []) xs
 
 -- the faults of several parts, one part after another
-abbrev pub joined : List (List Fault) → List Fault
-joined [] = []
-joined (faults ∷ others) = faults ++ joined others
+abbrev pub one_by_one : List (List Fault) → List Fault
+one_by_one [] = []
+one_by_one (faults ∷ others) = faults ++ one_by_one others

@@ -22,9 +22,10 @@ use Rattle.ssi_terms.specs.declared.tree.BodyTree.{BodyTree}
 use Rattle.ssi_names.specs.declared.fault.Fault.{Fault}
 use Rattle.ssi_names.specs.declared.scope.Scope.{Scope}
 use Rattle.ssi_names.specs.Bodies as f
+use Rattle.ssi_names.specs.Declarations.{Declared}
 use Rattle.ssi_names.specs.BodyRows as r
 use Rattle.ssi_names.specs.Rows.{counts_by, fact_by_name, number_by_name}
-use Rattle.ssi_names.specs.Tables.{table_of, knows, rules}
+use Rattle.ssi_names.specs.Tables.{table_of, known_by}
 use Rattle.ssi_names.specs.Texts.{characters}
 
 -- the counts are those of the names, and within the limits; a layout past them has none
@@ -46,33 +47,35 @@ module _ (scope : Scope) where
   abbrev pub names : Kind → List (List ℕ)
   names = table_of scope.tables.now
 
+  -- what is declared
+  abbrev pub known : Declared
+  known = known_by scope.text.now scope.tables.now
+
   -- ---- faults
 
   abbrev pub test_faults : Spot → Spot → List Fault
-  test_faults name word =
-      f.use_faults scope.text.now (knows scope.tables.now) (rules scope.tables.now) scope.file name
-      ++ f.test_word_faults scope.text.now (knows scope.tables.now) (rules scope.tables.now) scope.file (characters scope.text.now name) word
+  test_faults = f.test_faults known scope.file
 
   abbrev pub bit_faults : Spot → List Fault
-  bit_faults = f.bit_faults scope.text.now (knows scope.tables.now) (rules scope.tables.now) scope.file
+  bit_faults = f.bit_faults known scope.file
 
   abbrev pub item_faults : ItemTree → List Fault
-  item_faults = f.item_faults scope.text.now (knows scope.tables.now) (rules scope.tables.now) scope.file
+  item_faults = f.item_faults known scope.file
 
   abbrev pub cond_faults : CondTree → List Fault
-  cond_faults = f.cond_faults scope.text.now (knows scope.tables.now) (rules scope.tables.now) scope.file
+  cond_faults = f.cond_faults known scope.file
 
-  abbrev pub command_faults : CommandTree → List Fault
-  command_faults = f.command_faults scope.text.now (knows scope.tables.now) (rules scope.tables.now) scope.file
+  abbrev pub command_faults : List (Bool × ℕ) → CommandTree → List Fault
+  command_faults = f.command_faults known scope.file
 
   abbrev pub commands_faults : List (Bool × ℕ) → List CommandTree → List Fault
-  commands_faults = f.commands_faults scope.text.now (knows scope.tables.now) (rules scope.tables.now) scope.file
+  commands_faults = f.commands_faults known scope.file
 
   abbrev pub part_faults : PartTree → List Fault
-  part_faults = f.part_faults scope.text.now (knows scope.tables.now) (rules scope.tables.now) scope.file
+  part_faults = f.part_faults known scope.file
 
   abbrev pub body_faults : BodyTree → List Fault
-  body_faults = f.body_faults scope.text.now (knows scope.tables.now) (rules scope.tables.now) scope.file
+  body_faults = f.body_faults known scope.file
 
   -- ---- rows
 

@@ -1,10 +1,10 @@
 -- What the tables of names know.
-use Rattle.std.specs.Prelude.{◌≡◌, ◌<◌, ℕ, Bool, true, false, if◌then◌else◌, List, [], map, length}
+use Rattle.std.specs.Prelude.{◌≡◌, ◌<◌, ℕ, Bool, true, false, not, ◌||◌, if◌then◌else◌, List, [], map, length}
 use Rattle.ssi_identities.specs.declared.fact.Kind.{Kind}
 use Rattle.ssi_identities.specs.declared.fact.Kind.TheVariants.{Points, Signal, Track, Route, Subroute, Flag, Request}
 use Rattle.ssi_names.specs.declared.tables.Tables.{Tables}
 use Rattle.ssi_names.specs.SourceTexts.{SourceText}
-use Rattle.ssi_names.specs.Declarations.{declared, pins_of, names_at, addresses_of, points_with_rules}
+use Rattle.ssi_names.specs.Declarations.{Declared, declared, pins_of, names_at, addresses_of, points_with_rules}
 use Rattle.ssi_names.specs.NameLists.{is_among, set_of}
 use Rattle.ssi_names.specs.Texts.{characters}
 use Rattle.ssi_terms.specs.Trees.{IdentityText}
@@ -34,6 +34,20 @@ rules tables name lie = is_among name (if lie then tables.free_reverse else tabl
 -- whether an address is in the table of those that modules have
 abbrev pub has_module : Tables → List ℕ → Bool
 has_module tables address = is_among address tables.addresses
+
+-- what the tables of a text know
+abbrev pub known_by : List ℕ → Tables → Declared
+known_by text tables = record {
+  text = text;
+  is_declared = knows tables;
+  is_wired = wires tables;
+  has_rule = rules tables;
+  has_module = has_module tables;
+}
+
+-- the same where modules have to name what is declared, or where they don't
+abbrev pub asked_of : Bool → Declared → Declared
+asked_of wired known = record known { is_wired = λ name. not wired || known.is_wired name }
 
 -- tables with no names
 abbrev pub no_tables : Tables

@@ -1,4 +1,4 @@
--- Kinds by letters, and facts by words.
+-- Kinds by letters, facts by words, and kinds of modules by words.
 use Rattle.std.specs.Prelude.{ℕ, Bool, true, false, ◌||◌, if◌then◌else◌, codes, List, [], ◌∷◌, Option, Some, None, is_some}
 use Rattle.std.specs.Str.{bytes_eq}
 use Rattle.ssi_identities.specs.declared.fact.Kind.{Kind}
@@ -76,3 +76,7 @@ is_of_moves _ = false
 abbrev pub is_of_inputs : RuleFile → Bool
 is_of_inputs Inputs = true
 is_of_inputs _ = false
+
+-- the number of a module's kind, by its word: 0 of points, 1 of signals, 2 of tracks
+abbrev pub module_kind_of : List ℕ → ℕ
+module_kind_of word = if bytes_eq word (codes "points") then 0 else if bytes_eq word (codes "signal") then 1 else 2

@@ -4,7 +4,7 @@ ghost use Rattle.std.specs.Prelude.{◌≡◌, ◌++◌, List, map, OnOk};
 ghost use Rattle.ssi_terms.specs.declared.tree.Spot.{Spot as Spots};
 ghost use Rattle.ssi_names.specs.Faults.{block_address_faults};
 ghost use Rattle.ssi_names.specs.NameLists.{set_of, with_name};
-ghost use Rattle.ssi_names.specs.Tables.{has_module};
+ghost use Rattle.ssi_names.specs.Scopes.{known};
 ghost use Rattle.ssi_names.specs.Texts.{characters as characters_of};
 
 use crate::code::{BLOCK_TWICE, UNKNOWN};
@@ -27,7 +27,7 @@ pub fn address(
 ) -> Result<(), OutOfMemory>
     ensures faults { (earlier : List Spots) → seen.old ≡ set_of (map (λ other. characters_of scope.now.text.now other) earlier)
         → OnOk result (faults.new.items ≡ faults.old.items
-        ++ block_address_faults scope.now.text.now (has_module scope.now.tables.now) earlier spot.now) }
+        ++ block_address_faults (known scope.now) earlier spot.now) }
     ensures seen { OnOk result (seen.new ≡ with_name seen.old (characters_of scope.now.text.now spot.now)) }
 {
     let address = characters(scope.text, spot);

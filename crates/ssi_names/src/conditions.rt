@@ -3,7 +3,7 @@
 ghost use Rattle.std.specs.Prelude.{◌≡◌, ◌∷◌, ◌++◌, [], map, position, IfOk, IfSome, OnOk};
 ghost use Rattle.std.specs.Str.{bytes_eq};
 ghost use Rattle.ssi_identities.specs.Facts.{identity_of};
-ghost use Rattle.ssi_names.specs.Occurrences.{joined};
+ghost use Rattle.ssi_names.specs.Occurrences.{one_by_one};
 ghost use Rattle.ssi_names.specs.Scopes as spec;
 ghost use Rattle.ssi_names.specs.Scopes.{AreLimited};
 ghost use Rattle.ssi_names.specs.Tables.{table_of};
@@ -136,7 +136,7 @@ fn group(
     faults: &mut Vec<Fault>,
 ) -> Result<Items<Cond>, OutOfMemory>
     requires { AreLimited scope.now.counts (table_of scope.now.tables.now) }
-    ensures faults { OnOk result (faults.new.items ≡ faults.old.items ++ joined (map (spec.cond_faults scope.now) conds.now)) }
+    ensures faults { OnOk result (faults.new.items ≡ faults.old.items ++ one_by_one (map (spec.cond_faults scope.now) conds.now)) }
     ensures rows { IfOk result (λ rows. rows ≡ map (spec.cond_row scope.now) conds.now) }
 {
     let mut rows = Items::from_vec(Vec::with_capacity(alloc, conds.len())?);

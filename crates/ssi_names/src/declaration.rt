@@ -1,12 +1,12 @@
 //! An entry that declares a name, and the names that it has behind it.
 
-ghost use Rattle.std.specs.Prelude.{◌≡◌, ◌++◌, [], Bool, ℕ, List, OnOk};
-ghost use Rattle.ssi_identities.specs.declared.fact.Kind.{Kind as Kinds};
-ghost use Rattle.ssi_identities.specs.declared.fact.Kind.TheVariants.{Points, Signal, Track, Subroute};
+ghost use Rattle.std.specs.Prelude.{◌≡◌, ◌++◌, [], List, OnOk};
+ghost use Rattle.ssi_identities.specs.declared.fact.Kind.TheVariants.{Signal, Track, Subroute};
 ghost use Rattle.ssi_names.specs.declared.fault.Fault.{Fault as Found};
+ghost use Rattle.ssi_names.specs.Declarations.{Declared};
 ghost use Rattle.ssi_names.specs.Faults as spec;
 ghost use Rattle.ssi_names.specs.Occurrences.{in_order};
-ghost use Rattle.ssi_names.specs.Tables.{knows};
+ghost use Rattle.ssi_names.specs.Tables.{known_by};
 
 use crate::fault::Fault;
 use crate::members::{lies, members, reference};
@@ -20,7 +20,7 @@ use std::alloc::Global;
 
 /// An entry that declares a name, and may have others behind it.
 pub trait Declaration: Named {
-    ghost others: { List ℕ → (Kinds → List ℕ → Bool) → Self → List Found };
+    ghost others: { Declared → Self → List Found };
 
     /// Notes the faults of the names behind the one that is declared.
     fn judge_others(
@@ -30,11 +30,11 @@ pub trait Declaration: Named {
         tables: &Tables,
         faults: &mut Vec<Fault>,
     ) -> Result<(), OutOfMemory>
-        ensures { OnOk result (faults.new.items ≡ faults.old.items ++ others text.now (knows tables.now) self.now) };
+        ensures { OnOk result (faults.new.items ≡ faults.old.items ++ others (known_by text.now tables.now) self.now) };
 }
 
 impl Declaration for Spot {
-    ghost others = { λ text known entry. [] };
+    ghost others = { λ known entry. [] };
 
     fn judge_others(
         &self,
@@ -48,7 +48,7 @@ impl Declaration for Spot {
 }
 
 impl Declaration for PointsEntry {
-    ghost others = { λ text known entry. in_order (spec.member_faults text (known Track) 4) [] entry.tracks };
+    ghost others = { λ known entry. in_order (spec.member_faults known Track 4) [] entry.tracks };
 
     fn judge_others(
         &self,
@@ -64,8 +64,8 @@ impl Declaration for PointsEntry {
 }
 
 impl Declaration for RouteEntry {
-    ghost others = { λ text known entry.
-        spec.reference_faults text (known Signal) entry.signal ++ in_order (spec.member_faults text (known Subroute) 32) [] entry.subs };
+    ghost others = { λ known entry.
+        spec.reference_faults known Signal entry.signal ++ in_order (spec.member_faults known Subroute 32) [] entry.subs };
 
     #[tactic(auto, using(std::proofs::lemmas::List::append_assoc))]
     fn judge_others(
@@ -83,8 +83,8 @@ impl Declaration for RouteEntry {
 }
 
 impl Declaration for SubEntry {
-    ghost others = { λ text known entry.
-        spec.reference_faults text (known Track) entry.track ++ in_order (spec.lie_faults text (known Points)) [] entry.lies };
+    ghost others = { λ known entry.
+        spec.reference_faults known Track entry.track ++ in_order (spec.lie_faults known) [] entry.lies };
 
     #[tactic(auto, using(std::proofs::lemmas::List::append_assoc))]
     fn judge_others(

@@ -2,8 +2,8 @@
 
 ghost use Rattle.std.specs.Prelude.{◌≡◌, ◌≤◌, map, All, IfOk};
 ghost use Rattle.ssi_names.specs.Faults.{faults_by, identity_faults as faults_of_identities};
-ghost use Rattle.ssi_names.specs.Scopes.{AreLimited, body_row, cond_row, outputs_row, request_row, statement_row};
-ghost use Rattle.ssi_names.specs.Tables.{has_module, knows, rules, table_of, wires};
+ghost use Rattle.ssi_names.specs.Scopes.{AreLimited, known, body_row, cond_row, outputs_row, request_row, statement_row};
+ghost use Rattle.ssi_names.specs.Tables.{known_by, table_of};
 
 use crate::fault::Fault;
 use crate::identities::{declarations, names};
@@ -48,7 +48,7 @@ fn identity_faults(
     tree: &IdentityTree,
 ) -> Result<Vec<Fault>, OutOfMemory>
     ensures { IfOk result (λ faults.
-        faults.items ≡ faults_of_identities text.now (knows tables.now) (wires tables.now) tree.now) }
+        faults.items ≡ faults_of_identities (known_by text.now tables.now) tree.now) }
 {
     let mut faults = Vec::new(alloc);
     declarations(
@@ -105,9 +105,7 @@ pub fn judge_source(
 ) -> Result<Judged, OutOfMemory>
     requires limited { AreLimited scope.now.counts (table_of scope.now.tables.now) }
     requires short { All (λ entry. entry.0.len ≤ 16) tree.now.requests }
-    ensures faults { IfOk result (λ judged. judged.faults.items
-        ≡ faults_by scope.now.text.now (knows scope.now.tables.now) (wires scope.now.tables.now) (rules scope.now.tables.now)
-        (has_module scope.now.tables.now) tree.now) }
+    ensures faults { IfOk result (λ judged. judged.faults.items ≡ faults_by (known scope.now) tree.now) }
     ensures requests { IfOk result (λ judged. judged.requests.items ≡ map (request_row scope.now) tree.now.requests) }
     ensures moves { IfOk result (λ judged. judged.moves.items ≡ map (λ rule. cond_row scope.now rule.2) tree.now.free) }
     ensures statements { IfOk result (λ judged. judged.statements.items ≡ map (statement_row scope.now) tree.now.statements) }

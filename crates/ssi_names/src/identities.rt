@@ -4,7 +4,7 @@ ghost use Rattle.std.specs.Prelude.{◌≡◌, ◌++◌, [], true, not, ◌||◌
 ghost use Rattle.ssi_names.specs.Faults as spec;
 ghost use Rattle.ssi_names.specs.NameLists.{set_of};
 ghost use Rattle.ssi_names.specs.Occurrences.{in_order};
-ghost use Rattle.ssi_names.specs.Tables.{knows, wires};
+ghost use Rattle.ssi_names.specs.Tables.{asked_of, known_by};
 ghost use Rattle.ssi_names.specs.Texts.{characters as characters_of};
 
 use crate::code::{NOT_WIRED, TOO_MANY, TWICE};
@@ -30,8 +30,8 @@ struct DeclarationJudge<'a> {
 
 impl<'a, X: Declaration> Judge<X> for DeclarationJudge<'a> {
     ghost faults_of = { λ j earlier entry.
-        spec.wired_name_faults j.text.now (λ name. not j.quota.wired || wires j.tables.now name) X.Named.name_of j.quota.most earlier entry
-        ++ X.others j.text.now (knows j.tables.now) entry };
+        spec.wired_name_faults (asked_of j.quota.wired (known_by j.text.now j.tables.now)) X.Named.name_of j.quota.most earlier entry
+        ++ X.others (known_by j.text.now j.tables.now) entry };
 
     ghost is_after = { λ j earlier.
         j.seen ≡ set_of (map (λ e. characters_of j.text.now (X.Named.name_of e)) earlier) };
@@ -68,8 +68,8 @@ pub fn declarations<X: Declaration>(
     faults: &mut Vec<Fault>,
 ) -> Result<(), OutOfMemory>
     ensures { OnOk result (faults.new.items ≡ faults.old.items ++ in_order (λ earlier entry.
-        spec.wired_name_faults text.now (λ name. not quota.wired || wires tables.now name) X.Named.name_of quota.most earlier entry
-        ++ X.others text.now (knows tables.now) entry) [] entries.now) }
+        spec.wired_name_faults (asked_of quota.wired (known_by text.now tables.now)) X.Named.name_of quota.most earlier entry
+        ++ X.others (known_by text.now tables.now) entry) [] entries.now) }
 {
     let mut judge = DeclarationJudge {
         text,
@@ -90,7 +90,7 @@ pub fn names(
     faults: &mut Vec<Fault>,
 ) -> Result<(), OutOfMemory>
     ensures { OnOk result (faults.new.items ≡ faults.old.items ++ in_order
-        (spec.wired_name_faults text.now (λ name. not quota.wired || wires tables.now name) (λ e. e) quota.most) [] entries.now) }
+        (spec.wired_name_faults (asked_of quota.wired (known_by text.now tables.now)) (λ e. e) quota.most) [] entries.now) }
 {
     declarations(alloc, text, tables, quota, entries, faults)
 }

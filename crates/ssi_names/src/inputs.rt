@@ -5,8 +5,8 @@ ghost use Rattle.ssi_identities.specs.declared.rule.Body.{Body as Bodies};
 ghost use Rattle.ssi_names.specs.Faults as spec;
 ghost use Rattle.ssi_names.specs.NameLists.{set_of};
 ghost use Rattle.ssi_names.specs.Occurrences.{in_order};
-ghost use Rattle.ssi_names.specs.Scopes.{AreLimited, body_row};
-ghost use Rattle.ssi_names.specs.Tables.{has_module, knows, rules as rules_of, table_of};
+ghost use Rattle.ssi_names.specs.Scopes.{AreLimited, body_row, known};
+ghost use Rattle.ssi_names.specs.Tables.{table_of};
 ghost use Rattle.ssi_names.specs.Texts.{characters as characters_of};
 
 use crate::addresses::address;
@@ -34,8 +34,7 @@ impl RuleJudge<(Spot, BodyTree)> for InputJudge {
 
     ghost seen_as = { λ row. row };
 
-    ghost faults_of = { λ scope.
-        spec.input_faults scope.text.now (knows scope.tables.now) (rules_of scope.tables.now) (has_module scope.tables.now) };
+    ghost faults_of = { λ scope. spec.input_faults (known scope) };
 
     ghost row_of = { λ scope entry. body_row scope entry.1 };
 
@@ -72,8 +71,7 @@ pub fn inputs(
 ) -> Result<Vec<Body>, OutOfMemory>
     requires limited { AreLimited scope.now.counts (table_of scope.now.tables.now) }
     ensures faults { OnOk result (faults.new.items ≡ faults.old.items
-        ++ in_order (spec.input_faults scope.now.text.now (knows scope.now.tables.now) (rules_of scope.now.tables.now)
-        (has_module scope.now.tables.now)) [] entries.now) }
+        ++ in_order (spec.input_faults (known scope.now)) [] entries.now) }
     ensures rows { IfOk result (λ rows. rows.items ≡ map (λ entry. body_row scope.now entry.1) entries.now) }
 {
     let seen = NameSet::new(alloc);

@@ -2,11 +2,10 @@
 //! track and the points of a sub-route.
 
 ghost use Rattle.std.specs.Prelude.{◌≡◌, ◌++◌, [], map, OnOk};
-ghost use Rattle.ssi_identities.specs.declared.fact.Kind.TheVariants.{Points};
 ghost use Rattle.ssi_names.specs.Faults as spec;
 ghost use Rattle.ssi_names.specs.NameLists.{set_of};
 ghost use Rattle.ssi_names.specs.Occurrences.{in_order};
-ghost use Rattle.ssi_names.specs.Tables.{knows};
+ghost use Rattle.ssi_names.specs.Tables.{known_by};
 ghost use Rattle.ssi_names.specs.Texts.{characters as characters_of};
 
 use crate::code::{POINTS_TWICE_IN_SUBROUTE, TOO_MANY, UNKNOWN};
@@ -30,7 +29,7 @@ pub fn reference(
     faults: &mut Vec<Fault>,
 ) -> Result<(), OutOfMemory>
     ensures { OnOk result (faults.new.items ≡ faults.old.items
-        ++ spec.reference_faults text.now (knows tables.now kind) name.now) }
+        ++ spec.reference_faults (known_by text.now tables.now) kind name.now) }
 {
     let unknown = !is_known(tables, kind, characters(text, name));
     note(faults, name, &[(unknown, UNKNOWN)])
@@ -46,7 +45,7 @@ struct MemberJudge<'a> {
 }
 
 impl<'a> Judge<Spot> for MemberJudge<'a> {
-    ghost faults_of = { λ j. spec.member_faults j.text.now (knows j.tables.now j.kind) j.limit };
+    ghost faults_of = { λ j. spec.member_faults (known_by j.text.now j.tables.now) j.kind j.limit };
 
     ghost is_after = { λ j earlier. Unit {0} };
 
@@ -74,7 +73,7 @@ pub fn members(
     faults: &mut Vec<Fault>,
 ) -> Result<(), OutOfMemory>
     ensures { OnOk result (faults.new.items ≡ faults.old.items
-        ++ in_order (spec.member_faults text.now (knows tables.now kind) limit) [] names.now) }
+        ++ in_order (spec.member_faults (known_by text.now tables.now) kind limit) [] names.now) }
 {
     let mut judge = MemberJudge {
         text,
@@ -94,7 +93,7 @@ struct LieJudge<'a> {
 }
 
 impl<'a> Judge<(Spot, Spot)> for LieJudge<'a> {
-    ghost faults_of = { λ j. spec.lie_faults j.text.now (knows j.tables.now Points) };
+    ghost faults_of = { λ j. spec.lie_faults (known_by j.text.now j.tables.now) };
 
     ghost is_after = { λ j earlier.
         j.seen ≡ set_of (map (λ e. characters_of j.text.now e.0) earlier) };
@@ -132,7 +131,7 @@ pub fn lies(
     faults: &mut Vec<Fault>,
 ) -> Result<(), OutOfMemory>
     ensures { OnOk result (faults.new.items ≡ faults.old.items
-        ++ in_order (spec.lie_faults text.now (knows tables.now Points)) [] entries.now) }
+        ++ in_order (spec.lie_faults (known_by text.now tables.now)) [] entries.now) }
 {
     let seen = NameSet::new(alloc);
     judge_all(alloc, &mut LieJudge { text, tables, seen }, entries, faults)

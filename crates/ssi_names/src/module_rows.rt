@@ -1,7 +1,6 @@
 //! Trackside modules with numbers of identities.
 
 ghost use Rattle.std.specs.Prelude.{◌≡◌, ◌≤◌, ◌<◌, [], Some, length, replicate, None, slice_set, IfOk};
-ghost use Rattle.ssi_names.specs.Faults.{count_of_pins, kind_at_pins};
 ghost use Rattle.ssi_names.specs.ModuleRows as spec;
 ghost use Rattle.ssi_names.specs.Rows.{module_row};
 ghost use Rattle.ssi_names.specs.Texts.{number as number_at};
@@ -11,8 +10,9 @@ use crate::name_set::NameSet;
 use crate::rows::{RowOf, number};
 use crate::tables::{Tables, table};
 use crate::text::{characters, small_number};
+use crate::words::module_kind;
 use ssi_base::OutOfMemory;
-use ssi_identities::{Cond, Kind, ModuleRow};
+use ssi_identities::{Cond, ModuleRow};
 use ssi_terms::{ModuleEntry, Spot};
 use std::alloc::Global;
 
@@ -57,19 +57,6 @@ pub fn no_outputs(alloc: Global) -> Result<Vec<Option<Cond>>, OutOfMemory>
     Ok(outputs)
 }
 
-/// The number of a module's kind.
-fn number_of_kind(word: &[u8]) -> u8
-    ensures { result ≡ spec.number_of_kind word.now }
-{
-    if word == b"points".as_slice() {
-        0
-    } else if word == b"signal".as_slice() {
-        1
-    } else {
-        2
-    }
-}
-
 impl RowOf<ModuleEntry> for ModuleRow {
     ghost row_of = { λ text names. module_row text names [] [] };
 
@@ -81,12 +68,12 @@ impl RowOf<ModuleEntry> for ModuleRow {
         tables: &Tables,
         entry: &ModuleEntry,
     ) -> Result<ModuleRow, OutOfMemory> {
-        let word = characters(text, &entry.kind);
-        let (kind, count) = pins_by_kind(word);
-        let names = table(tables, kind);
+        let kind = module_kind(characters(text, &entry.kind));
+        let (identities, count) = pins_by_kind(kind);
+        let names = table(tables, identities);
         Ok(ModuleRow {
             address: small_number(text, &entry.address),
-            kind: number_of_kind(word),
+            kind,
             pins: pins_row(alloc, text, names, count, entry.pins.as_slice())?,
             outputs: no_outputs(alloc)?,
             input: None,

@@ -1,12 +1,13 @@
 //! TFM.
 
 ghost use Rattle.std.specs.Prelude.{◌≡◌, ◌∷◌, ◌++◌, ◌≤◌, ◌||◌, ◌==◌, [], false, true, not, nat_le, min, fold, slice_index_or, slice_set, OnOk};
+ghost use Rattle.ssi_identities.specs.Wells.{pin_count, wired_kind};
 ghost use Rattle.ssi_names.specs.Codes as code;
 ghost use Rattle.ssi_names.specs.Declarations.{names_at};
 ghost use Rattle.ssi_names.specs.Faults as spec;
 ghost use Rattle.ssi_names.specs.NameLists.{is_among, with_name};
 ghost use Rattle.ssi_names.specs.Occurrences.{at, in_order};
-ghost use Rattle.ssi_names.specs.Tables.{knows};
+ghost use Rattle.ssi_names.specs.Tables.{known_by, knows};
 ghost use Rattle.ssi_names.specs.Texts.{characters as characters_of, number};
 
 use crate::code::{BAD_PIN, TWICE, UNKNOWN, WIRED_TWICE};
@@ -14,6 +15,7 @@ use crate::fault::{Fault, note};
 use crate::name_set::NameSet;
 use crate::tables::{Tables, is_known};
 use crate::text::{characters, small_number};
+use crate::words::module_kind;
 use ssi_base::OutOfMemory;
 use ssi_identities::Kind;
 use ssi_identities::limits::ADDRESSES;
@@ -37,18 +39,15 @@ fn mark(marks: &mut [bool], number: u8) -> bool
     was
 }
 
-/// The kind of identity at the pins of a module, by the word for the module's kind, and how many pins
-/// the module has.
-pub fn pins_by_kind(word: &[u8]) -> (Kind, u8)
-    ensures kind { result.0 ≡ spec.kind_at_pins word.now }
-    ensures count { result.1 ≡ spec.count_of_pins word.now }
+/// The kind of identity at the pins of a module of this kind, and how many pins it has.
+pub fn pins_by_kind(kind: u8) -> (Kind, u8)
+    ensures kind { result.0 ≡ wired_kind kind }
+    ensures count { result.1 ≡ pin_count kind }
 {
-    if word == b"points".as_slice() {
-        (Kind::Points, 2)
-    } else if word == b"signal".as_slice() {
-        (Kind::Signal, 8)
-    } else {
-        (Kind::Track, 8)
+    match kind {
+        0 => (Kind::Points, 2),
+        1 => (Kind::Signal, 8),
+        _ => (Kind::Track, 8),
     }
 }
 
@@ -123,7 +122,7 @@ fn pins(
 ) -> Result<(), OutOfMemory>
     requires { count ≤ 8 }
     ensures faults { OnOk result (faults.new.items ≡ faults.old.items
-        ++ in_order (spec.pin_faults text.now (knows tables.now kind) count (λ name. is_among name seen.old)) [] entries.now) }
+        ++ in_order (spec.pin_faults (known_by text.now tables.now) kind count (λ name. is_among name seen.old)) [] entries.now) }
     ensures seen { OnOk result (seen.new ≡ fold with_name seen.old (names_at text.now entries.now)) }
 {
     let mut used = [false; PINS];
@@ -143,13 +142,13 @@ pub fn modules(
     faults: &mut Vec<Fault>,
 ) -> Result<(), OutOfMemory>
     ensures { OnOk result (faults.new.items ≡ faults.old.items
-        ++ in_order (spec.module_faults text.now (knows tables.now)) [] entries.now) }
+        ++ in_order (spec.module_faults (known_by text.now tables.now)) [] entries.now) }
 {
     let mut seen = NameSet::new(alloc);
     let mut used = [false; ADDRESSES];
     for entry in entries {
         address(text, &mut used, &entry.address, faults)?;
-        let (kind, count) = pins_by_kind(characters(text, &entry.kind));
+        let (kind, count) = pins_by_kind(module_kind(characters(text, &entry.kind)));
         let named = entry.pins.as_slice();
         pins(alloc, text, tables, kind, count, &mut seen, named, faults)?;
     }

@@ -6,8 +6,8 @@ ghost use Rattle.ssi_names.specs.Declarations.{points_with_rules};
 ghost use Rattle.ssi_names.specs.Faults as spec;
 ghost use Rattle.ssi_names.specs.NameLists.{set_of};
 ghost use Rattle.ssi_names.specs.Occurrences.{in_order};
-ghost use Rattle.ssi_names.specs.Scopes.{AreLimited, cond_row};
-ghost use Rattle.ssi_names.specs.Tables.{knows, rules as rules_of, table_of};
+ghost use Rattle.ssi_names.specs.Scopes.{AreLimited, cond_row, known};
+ghost use Rattle.ssi_names.specs.Tables.{table_of};
 
 use crate::code::{BLOCK_TWICE, UNKNOWN};
 use crate::conditions::cond;
@@ -36,7 +36,7 @@ impl RuleJudge<(Spot, Spot, CondTree)> for MoveJudge {
 
     ghost seen_as = { λ row. row };
 
-    ghost faults_of = { λ scope. spec.move_faults scope.text.now (knows scope.tables.now) (rules_of scope.tables.now) };
+    ghost faults_of = { λ scope. spec.move_faults (known scope) };
 
     ghost row_of = { λ scope entry. cond_row scope entry.2 };
 
@@ -82,7 +82,7 @@ pub fn moves(
 ) -> Result<Vec<Cond>, OutOfMemory>
     requires limited { AreLimited scope.now.counts (table_of scope.now.tables.now) }
     ensures faults { OnOk result (faults.new.items ≡ faults.old.items
-        ++ in_order (spec.move_faults scope.now.text.now (knows scope.now.tables.now) (rules_of scope.now.tables.now)) [] entries.now) }
+        ++ in_order (spec.move_faults (known scope.now)) [] entries.now) }
     ensures rows { IfOk result (λ rows. rows.items ≡ map (λ entry. cond_row scope.now entry.2) entries.now) }
 {
     let normal = NameSet::new(alloc);

@@ -6,8 +6,8 @@ ghost use Rattle.ssi_names.specs.declared.rule_file.RuleFile.TheVariants.{Output
 ghost use Rattle.ssi_names.specs.Faults as spec;
 ghost use Rattle.ssi_names.specs.NameLists.{set_of};
 ghost use Rattle.ssi_names.specs.Occurrences.{in_order};
-ghost use Rattle.ssi_names.specs.Scopes.{AreLimited, outputs_row, with_output};
-ghost use Rattle.ssi_names.specs.Tables.{has_module, knows, rules as rules_of, table_of};
+ghost use Rattle.ssi_names.specs.Scopes.{AreLimited, known, outputs_row, with_output};
+ghost use Rattle.ssi_names.specs.Tables.{table_of};
 ghost use Rattle.ssi_names.specs.Texts.{characters as characters_of};
 
 use crate::addresses::address;
@@ -36,7 +36,7 @@ fn bits(
     requires limited { AreLimited scope.now.counts (table_of scope.now.tables.now) }
     requires file { scope.now.file ≡ Outputs }
     ensures faults { OnOk result (faults.new.items ≡ faults.old.items
-        ++ in_order (spec.output_bit_faults scope.now.text.now (knows scope.now.tables.now) (rules_of scope.now.tables.now)) [] entries.now) }
+        ++ in_order (spec.output_bit_faults (known scope.now)) [] entries.now) }
     ensures row { IfOk result (λ row. row.items ≡ fold (with_output scope.now) (replicate 8 None) entries.now) }
 {
     let mut row = no_outputs(alloc)?;
@@ -62,8 +62,7 @@ impl RuleJudge<OutputEntry> for OutputJudge {
 
     ghost seen_as = { λ row. row.items };
 
-    ghost faults_of = { λ scope.
-        spec.output_faults scope.text.now (knows scope.tables.now) (rules_of scope.tables.now) (has_module scope.tables.now) };
+    ghost faults_of = { λ scope. spec.output_faults (known scope) };
 
     ghost row_of = { outputs_row };
 
@@ -99,8 +98,7 @@ pub fn outputs(
 ) -> Result<Vec<Vec<Option<Cond>>>, OutOfMemory>
     requires limited { AreLimited scope.now.counts (table_of scope.now.tables.now) }
     ensures faults { OnOk result (faults.new.items ≡ faults.old.items
-        ++ in_order (spec.output_faults scope.now.text.now (knows scope.now.tables.now) (rules_of scope.now.tables.now)
-        (has_module scope.now.tables.now)) [] entries.now) }
+        ++ in_order (spec.output_faults (known scope.now)) [] entries.now) }
     ensures rows { IfOk result (λ rows. map (λ row. row.items) rows.items ≡ map (outputs_row scope.now) entries.now) }
 {
     let seen = NameSet::new(alloc);

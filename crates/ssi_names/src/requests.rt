@@ -5,8 +5,8 @@ ghost use Rattle.ssi_identities.specs.declared.data_set.RequestRow.{RequestRow a
 ghost use Rattle.ssi_names.specs.Faults as spec;
 ghost use Rattle.ssi_names.specs.NameLists.{set_of};
 ghost use Rattle.ssi_names.specs.Occurrences.{in_order};
-ghost use Rattle.ssi_names.specs.Scopes.{AreLimited, request_row};
-ghost use Rattle.ssi_names.specs.Tables.{knows, rules as rules_of, table_of};
+ghost use Rattle.ssi_names.specs.Scopes.{AreLimited, known, request_row};
+ghost use Rattle.ssi_names.specs.Tables.{table_of};
 ghost use Rattle.ssi_names.specs.Texts.{characters as characters_of};
 
 use crate::bodies::body;
@@ -36,7 +36,7 @@ impl RuleJudge<(Spot, BodyTree)> for RequestJudge {
 
     ghost seen_as = { λ row. row };
 
-    ghost faults_of = { λ scope. spec.request_faults scope.text.now (knows scope.tables.now) (rules_of scope.tables.now) };
+    ghost faults_of = { λ scope. spec.request_faults (known scope) };
 
     ghost row_of = { request_row };
 
@@ -78,7 +78,7 @@ pub fn requests(
     requires limited { AreLimited scope.now.counts (table_of scope.now.tables.now) }
     requires short { All (λ entry. entry.0.len ≤ 16) entries.now }
     ensures faults { OnOk result (faults.new.items ≡ faults.old.items
-        ++ in_order (spec.request_faults scope.now.text.now (knows scope.now.tables.now) (rules_of scope.now.tables.now)) [] entries.now) }
+        ++ in_order (spec.request_faults (known scope.now)) [] entries.now) }
     ensures rows { IfOk result (λ rows. rows.items ≡ map (request_row scope.now) entries.now) }
 {
     let seen = NameSet::new(alloc);

@@ -4,8 +4,8 @@ ghost use Rattle.std.specs.Prelude.{◌≡◌, ◌++◌, [], map, IfOk, OnOk};
 ghost use Rattle.ssi_identities.specs.DataSets.{StmtPlan};
 ghost use Rattle.ssi_names.specs.Faults as spec;
 ghost use Rattle.ssi_names.specs.Occurrences.{in_order};
-ghost use Rattle.ssi_names.specs.Scopes.{AreLimited, statement_row};
-ghost use Rattle.ssi_names.specs.Tables.{knows, rules as rules_of, table_of};
+ghost use Rattle.ssi_names.specs.Scopes.{AreLimited, known, statement_row};
+ghost use Rattle.ssi_names.specs.Tables.{table_of};
 
 use crate::bodies::commands;
 use crate::conditions::cond;
@@ -30,7 +30,7 @@ impl RuleJudge<StatementEntry> for StatementJudge {
 
     ghost seen_as = { λ row. row };
 
-    ghost faults_of = { λ scope. spec.statement_faults scope.text.now (knows scope.tables.now) (rules_of scope.tables.now) };
+    ghost faults_of = { λ scope. spec.statement_faults (known scope) };
 
     ghost row_of = { statement_row };
 
@@ -68,7 +68,7 @@ pub fn statements(
 ) -> Result<Vec<Stmt>, OutOfMemory>
     requires limited { AreLimited scope.now.counts (table_of scope.now.tables.now) }
     ensures faults { OnOk result (faults.new.items ≡ faults.old.items
-        ++ in_order (spec.statement_faults scope.now.text.now (knows scope.now.tables.now) (rules_of scope.now.tables.now)) [] entries.now) }
+        ++ in_order (spec.statement_faults (known scope.now)) [] entries.now) }
     ensures rows { IfOk result (λ rows. rows.items ≡ map (statement_row scope.now) entries.now) }
 {
     judge_rules(alloc, scope, &mut StatementJudge, entries, faults)

@@ -1,4 +1,4 @@
-//! Kinds by letters, and facts by words.
+//! Kinds by letters, facts by words, and kinds of modules by words.
 
 ghost use Rattle.std.specs.Prelude.{◌≡◌, IfSome};
 ghost use Rattle.ssi_identities.specs.declared.fact.Kind.TheVariants.{Points};
@@ -138,4 +138,17 @@ fn is_reported(fact: FactKind) -> bool
             | FactKind::Occupied
             | FactKind::FlagSet
     )
+}
+
+/// The number of a module's kind, by its word: 0 of points, 1 of signals, 2 of tracks.
+pub fn module_kind(word: &[u8]) -> u8
+    ensures { result ≡ spec.module_kind_of word.now }
+{
+    if word == b"points".as_slice() {
+        0
+    } else if word == b"signal".as_slice() {
+        1
+    } else {
+        2
+    }
 }
