@@ -9,7 +9,7 @@ use Rattle.ssi_lexer.specs.Parsers.{◌&◌, tok, separated}
 use Rattle.ssi_lexer.specs.Laws.{StartsWith, Always, Good}
 use Rattle.ssi_lexer.proofs.Joining.{Both, both, good_mapped}
 use Rattle.ssi_lexer.proofs.Listing.{good_separated}
-use Rattle.ssi_lexer.proofs.Sequences.{joined, joined_by}
+use Rattle.ssi_lexer.proofs.Sequences.{good_then, joined_by}
 use Rattle.ssi_lexer.proofs.Starting.{dot_not_comma, word_not_comma, starts_one, starts_both, good_dot}
 use Rattle.ssi_terms.specs.declared.tree.CommandTree.{CommandTree}
 use Rattle.ssi_terms.specs.declared.tree.CondTree.{CondTree}
@@ -63,7 +63,7 @@ module _ (depth : ℕ) where
       good_mapped StatementParts StatementText statement_of (separated command & (tok is_if & (cond depth & tok dot))) StatementForm (SpellsStatement depth) Always Always to_statement from_statement
       (joined_by comma is_if (starts_both Token (CondTree × Token) is_if (One is_if) Ended (starts_one is_if)) (λ t e. word_not_comma (codes "if") t e)
       (good_separated CommandTree command SpellsCommand Always Always (λ ts e. tt) good_command)
-      (joined (good_word (codes "if")) (joined_by comma dot (starts_one dot) dot_not_comma (good_cond depth) good_dot)))
+      (good_then (good_word (codes "if")) (joined_by comma dot (starts_one dot) dot_not_comma (good_cond depth) good_dot)))
 
   pub statement_starts : (x : StatementText) (u : List Lexeme) → SpellsStatement depth x u → StartsWith any_identity u
   statement_starts x u (a_statement i d commands guard v w l h s j) =

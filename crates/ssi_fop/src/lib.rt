@@ -1,8 +1,10 @@
 //! The file FOP: statements, whose commands act where a condition holds.
 //!
-//! The layer above may rely on [`read_file`]: it answers the tree of the file that the tokens spell, or the
-//! first fault of the text, lexical, of syntax or of depth, at its exact place. A reader of a whole source goes
-//! on with what follows: [`statements`]. It stands on `ssi_terms` for commands and conditions.
+//! The layer above makes its reader of the whole source of [`statements`], which reads this file whatever follows.
+//! [`read_file`] reads it alone: it answers the tree of the file that the tokens spell, or the first fault of
+//! the text, lexical, of syntax or of depth, at its exact place.
+//!
+//! It stands on `ssi_terms` for commands and conditions.
 #![tactic(auto)]
 
 mod file;

@@ -9,7 +9,7 @@ use Rattle.ssi_lexer.specs.Languages.{One, one}
 use Rattle.ssi_lexer.specs.Parsers.{◌&◌, tok}
 use Rattle.ssi_lexer.specs.Laws.{StartsWith, Always, Good}
 use Rattle.ssi_lexer.proofs.Joining.{Both, both, good_mapped}
-use Rattle.ssi_lexer.proofs.Sequences.{joined, joined_by}
+use Rattle.ssi_lexer.proofs.Sequences.{good_then, joined_by}
 use Rattle.ssi_lexer.proofs.Starting.{some_token, dot_not_comma, starts_one, good_dot}
 use Rattle.ssi_terms.specs.declared.tree.Spot.{Spot}
 use Rattle.ssi_terms.specs.declared.tree.BodyTree.{BodyTree}
@@ -39,7 +39,7 @@ module _ (depth : ℕ) where
   unfolding spec.input_entry
   good_input =
       good_mapped (Spot × (BodyTree × Token)) (Spot × BodyTree) input_of (spot any_number & (body depth depth & tok dot)) InputForm (SpellsInput depth) Always Always to_input from_input
-      (joined (good_spot any_number (some_token k.Number (codes "0")) refl) (joined_by comma dot (starts_one dot) dot_not_comma (good_body depth depth) good_dot))
+      (good_then (good_spot any_number (some_token k.Number (codes "0")) refl) (joined_by comma dot (starts_one dot) dot_not_comma (good_body depth depth) good_dot))
 
   pub input_starts : (x : Spot × BodyTree) (u : List Lexeme) → SpellsInput depth x u → StartsWith any_number u
   input_starts x u (an_input n d body v e s h) = record { first = n; others = v ++ (d ∷ []); parts = refl; passes = e }

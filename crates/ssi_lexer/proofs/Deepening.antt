@@ -6,27 +6,27 @@ use Rattle.ssi_lexer.specs.declared.wanted.Stop.TheVariants as s
 use Rattle.ssi_lexer.specs.Lexemes.{Lexeme, token_of}
 use Rattle.ssi_lexer.specs.TokenTests.{sees, comma}
 use Rattle.ssi_lexer.specs.Parsers.{Outcome, Parser, and_then, pure, ◌&◌, mapped, tok, valued, or_stop, either, maybe, many, turns, behind, separated, separated_by, several_by, too_deep}
-use Rattle.ssi_lexer.specs.Laws.{left_by, GoesPast, Extends, Deepens}
+use Rattle.ssi_lexer.specs.Laws.{tokens_left, GoesPast, Extends, Deepens}
 
 -- ---- one after the other
 
 -- what comes after takes no more than is left
-left_then : {A B : Type 0} (o : Outcome A) (k : A → Parser B) → ((x : A) (ts : List Lexeme) → length (left_by (k x ts)) ≤ length ts) → length (left_by (and_then o k)) ≤ length (left_by o)
+left_then : {A B : Type 0} (o : Outcome A) (k : A → Parser B) → ((x : A) (ts : List Lexeme) → length (tokens_left (k x ts)) ≤ length ts) → length (tokens_left (and_then o k)) ≤ length (tokens_left o)
 left_then (Ok r) k h = h r.0 r.1
 left_then (Err halt) k h = omega arith
 
-past_then : {A B : Type 0} (stop : Stop) (rest : List Lexeme) (o : Outcome A) (k : A → Parser B) → GoesPast stop rest o → ((x : A) (ts : List Lexeme) → length (left_by (k x ts)) ≤ length ts) → GoesPast stop rest (and_then o k)
+past_then : {A B : Type 0} (stop : Stop) (rest : List Lexeme) (o : Outcome A) (k : A → Parser B) → GoesPast stop rest o → ((x : A) (ts : List Lexeme) → length (tokens_left (k x ts)) ≤ length ts) → GoesPast stop rest (and_then o k)
 past_then s.Syntax rest o k e h = ap (λ v. and_then v k) e
 past_then s.TooDeep rest o k e h = let less = left_then o k h in omega arith
 past_then s.Memory rest o k e h = absurd e
 
-extends_then : {A B : Type 0} (o deeper : Outcome A) (k l : A → Parser B) → Extends o deeper → ((x : A) (ts : List Lexeme) → Extends (k x ts) (l x ts)) → ((x : A) (ts : List Lexeme) → length (left_by (l x ts)) ≤ length ts)
+extends_then : {A B : Type 0} (o deeper : Outcome A) (k l : A → Parser B) → Extends o deeper → ((x : A) (ts : List Lexeme) → Extends (k x ts) (l x ts)) → ((x : A) (ts : List Lexeme) → length (tokens_left (l x ts)) ≤ length ts)
     → Extends (and_then o k) (and_then deeper l)
 extends_then (Ok r) deeper k l e same h = subst (λ v. Extends (k r.0 r.1) (and_then v l)) (sym e) (same r.0 r.1)
 extends_then (Err halt) deeper k l e same h = past_then halt.0 halt.1 deeper l e h
 
 -- what is read first leaves no more, and what comes after neither
-no_longer_then : {A B : Type 0} (ts : List Lexeme) (o : Outcome A) (k : A → Parser B) → length (left_by o) ≤ length ts → ((x : A) (mid : List Lexeme) → length (left_by (k x mid)) ≤ length mid) → length (left_by (and_then o k)) ≤ length ts
+no_longer_then : {A B : Type 0} (ts : List Lexeme) (o : Outcome A) (k : A → Parser B) → length (tokens_left o) ≤ length ts → ((x : A) (mid : List Lexeme) → length (tokens_left (k x mid)) ≤ length mid) → length (tokens_left (and_then o k)) ≤ length ts
 no_longer_then ts o k le h = let less = left_then o k h in omega arith
 
 pub deep_then : {A B : Type 0} {p q : Parser A} (k l : A → Parser B) → Deepens A p q → ((x : A) → Deepens B (k x) (l x)) → Deepens B (λ ts. and_then (p ts) k) (λ ts. and_then (q ts) l)
@@ -61,11 +61,11 @@ module _ (test : Lexeme → Bool) where
   tok_extends [] = refl
   tok_extends (t ∷ ts) = tok_by t ts (test t)
 
-  fewer_by : (t : Lexeme) (ts : List Lexeme) (b : Bool) → length (left_by (cond b (Ok (token_of t, ts)) (Err (s.Syntax, t ∷ ts)))) ≤ length (t ∷ ts)
+  fewer_by : (t : Lexeme) (ts : List Lexeme) (b : Bool) → length (tokens_left (cond b (Ok (token_of t, ts)) (Err (s.Syntax, t ∷ ts)))) ≤ length (t ∷ ts)
   fewer_by t ts true = omega arith
   fewer_by t ts false = omega arith
 
-  tok_no_longer : (ts : List Lexeme) → length (left_by (tok test ts)) ≤ length ts
+  tok_no_longer : (ts : List Lexeme) → length (tokens_left (tok test ts)) ≤ length ts
   unfolding tok
   tok_no_longer [] = omega arith
   tok_no_longer (t ∷ ts) = fewer_by t ts (test t)
@@ -80,11 +80,11 @@ module _ (A : Type 0) (test : Lexeme → Bool) (p q r t : Parser A) where
   either_by ts true d e = d refl
   either_by ts false d e = e
 
-  less_by : (ts : List Lexeme) (b : Bool) → length (left_by (q ts)) ≤ length ts → length (left_by (t ts)) ≤ length ts → length (left_by (cond b (q ts) (t ts))) ≤ length ts
+  less_by : (ts : List Lexeme) (b : Bool) → length (tokens_left (q ts)) ≤ length ts → length (tokens_left (t ts)) ≤ length ts → length (tokens_left (cond b (q ts) (t ts))) ≤ length ts
   less_by ts true d e = d
   less_by ts false d e = e
 
-  either_of : ((ts : List Lexeme) → sees test ts ≡ true → Extends (p ts) (q ts)) → ((ts : List Lexeme) → length (left_by (q ts)) ≤ length ts) → Deepens A r t → Deepens A (either test p r) (either test q t)
+  either_of : ((ts : List Lexeme) → sees test ts ≡ true → Extends (p ts) (q ts)) → ((ts : List Lexeme) → length (tokens_left (q ts)) ≤ length ts) → Deepens A r t → Deepens A (either test p r) (either test q t)
   unfolding either
   either_of d h e = record {
     extends = λ ts. either_by ts (sees test ts) (d ts) (e.extends ts);
@@ -92,7 +92,7 @@ module _ (A : Type 0) (test : Lexeme → Bool) (p q r t : Parser A) where
   }
 
 -- a choice whose first way has to be deeper only where such a token comes
-pub deep_either_seen : {A : Type 0} {r t : Parser A} (test : Lexeme → Bool) (p q : Parser A) → ((ts : List Lexeme) → sees test ts ≡ true → Extends (p ts) (q ts)) → ((ts : List Lexeme) → length (left_by (q ts)) ≤ length ts) → Deepens A r t
+pub deep_either_seen : {A : Type 0} {r t : Parser A} (test : Lexeme → Bool) (p q : Parser A) → ((ts : List Lexeme) → sees test ts ≡ true → Extends (p ts) (q ts)) → ((ts : List Lexeme) → length (tokens_left (q ts)) ≤ length ts) → Deepens A r t
     → Deepens A (either test p r) (either test q t)
 deep_either_seen {A = A} {r = r} {t = t} test p q d h e = either_of A test p q r t d h e
 
@@ -108,7 +108,7 @@ deep_maybe {A = A} {p = p} {q = q} test d =
     let e : Deepens (Option A) (either test (mapped Some p) (pure None)) (either test (mapped Some q) (pure None)) = deep_either test (deep_mapped Some d) (deep_pure None) in
     record {
       extends = λ ts. subst (λ v. Extends (maybe test p ts) v) (sym (maybe_is test q ts)) (subst (λ v. Extends v (either test (mapped Some q) (pure None) ts)) (sym (maybe_is test p ts)) (e.extends ts));
-      no_longer = λ ts. subst (λ v. length (left_by v) ≤ length ts) (sym (maybe_is test q ts)) (e.no_longer ts);
+      no_longer = λ ts. subst (λ v. length (tokens_left v) ≤ length ts) (sym (maybe_is test q ts)) (e.no_longer ts);
     }
 
 -- ---- as long as a token comes
@@ -124,7 +124,7 @@ module _ (A : Type 0) (test : Lexeme → Bool) (p q : Parser A) (d : Deepens A p
   turn_by found k l e ts false = refl
 
   turn_less : (found : List A) (k l : A → Parser (List A)) → Deepens (List A) (λ ts. and_then (p ts) k) (λ ts. and_then (q ts) l)
-      → (ts : List Lexeme) (b : Bool) → length (left_by (cond b (and_then (q ts) l) (Ok (found, ts)))) ≤ length ts
+      → (ts : List Lexeme) (b : Bool) → length (tokens_left (cond b (and_then (q ts) l) (Ok (found, ts)))) ≤ length ts
   turn_less found k l e ts true = e.no_longer ts
   turn_less found k l e ts false = omega arith
 
@@ -166,8 +166,8 @@ deep_separated d = deep_separated_by comma d
 
 -- ---- a level more
 
-past_by : {A B : Type 0} (f : Token × B → A) (t : Lexeme) (ts : List Lexeme) (o : Outcome B) → length (left_by o) ≤ length ts
-    → length (left_by (and_then (and_then o (λ y. pure (token_of t, y))) (λ z. pure (f z)))) < suc (length ts)
+past_by : {A B : Type 0} (f : Token × B → A) (t : Lexeme) (ts : List Lexeme) (o : Outcome B) → length (tokens_left o) ≤ length ts
+    → length (tokens_left (and_then (and_then o (λ y. pure (token_of t, y))) (λ z. pure (f z)))) < suc (length ts)
 past_by f t ts (Ok r) le = omega arith
 past_by f t ts (Err halt) le = omega arith
 
@@ -175,7 +175,7 @@ abbrev stops : {A : Type 0} → Parser A
 stops {A = A} = too_deep
 
 -- where no level may open, a reader of one goes past the token that opens it
-pub past_opener : {A B : Type 0} (test : Lexeme → Bool) (f : Token × B → A) (q : Parser B) → ((ts : List Lexeme) → length (left_by (q ts)) ≤ length ts)
+pub past_opener : {A B : Type 0} (test : Lexeme → Bool) (f : Token × B → A) (q : Parser B) → ((ts : List Lexeme) → length (tokens_left (q ts)) ≤ length ts)
     → (ts : List Lexeme) → sees test ts ≡ true → Extends (stops {A = A} ts) (mapped f (tok test & q) ts)
 unfolding too_deep tok
 past_opener test f q h [] e = absurd cc

@@ -9,8 +9,8 @@ use Rattle.ssi_lexer.specs.declared.wanted.Stop.TheVariants as s
 use Rattle.ssi_lexer.specs.Lexemes.{Lexeme}
 use Rattle.ssi_lexer.specs.TokenTests.{Is}
 use Rattle.ssi_lexer.specs.Parsers.{Outcome, Parser}
-use Rattle.ssi_lexer.specs.Laws.{BeginAlike, left_by, GoesPast, Extends, Explains, Deep}
-use Rattle.ssi_lexer.specs.Spelling.{AtAnyDepth, Begins, NeedsMore, WithEnd, IsEnded, Takes, FitsNothing, FirstFault, FirstTooDeep, HasOneValue, place_of}
+use Rattle.ssi_lexer.specs.Laws.{BeginAlike, tokens_left, GoesPast, Extends, Explains, Deep}
+use Rattle.ssi_lexer.specs.Spelling.{AtAnyDepth, Begins, NeedsMore, WithEnd, IsEnded, Takes, FitsNothing, FirstFault, FirstTooDeep, HasOneValue, next_place}
 use Rattle.ssi_lexer.proofs.Joining.{took, halted}
 use Rattle.ssi_lexer.proofs.OneAnswer.{Compared, longer, shorter, compared}
 use Rattle.ssi_lexer.proofs.Spellings as spelling
@@ -103,7 +103,7 @@ module _ (A : Type 0) (p : ℕ → Parser A) (S : ℕ → A → List Lexeme → 
     fits_aside front (t ∷ ts) end place h = ((h 0).0, λ b. (h b.spells.spells.0).1 (lifted_begins (front ++ (t ∷ [])) b))
 
     -- a fault is one with depths left aside
-    pub stopped_first : (left rest : List Lexeme) (end : TextEnd) (place : Place) → p depth left ≡ Err (s.Syntax, rest) → place_of rest end ≡ Ok place → FirstFault A Within Aside ends left end place
+    pub stopped_first : (left rest : List Lexeme) (end : TextEnd) (place : Place) → p depth left ≡ Err (s.Syntax, rest) → next_place rest end ≡ Ok place → FirstFault A Within Aside ends left end place
     stopped_first left rest end place e at =
         let h = halted A (p depth) Within E F (deep.good depth) left s.Syntax rest e in
         record {
@@ -132,7 +132,7 @@ module _ (A : Type 0) (p : ℕ → Parser A) (S : ℕ → A → List Lexeme → 
         }
 
     -- what the reader takes with a level more begins with the tokens before the one where it stops, and with that one
-    begins_deeper : (front rest : List Lexeme) (t : Lexeme) (ts : List Lexeme) → rest ≡ front ++ (t ∷ ts) → (o : Outcome A) → Explains A (p (suc depth)) (S (suc depth)) E rest o → length (left_by o) < length (t ∷ ts)
+    begins_deeper : (front rest : List Lexeme) (t : Lexeme) (ts : List Lexeme) → rest ≡ front ++ (t ∷ ts) → (o : Outcome A) → Explains A (p (suc depth)) (S (suc depth)) E rest o → length (tokens_left o) < length (t ∷ ts)
         → Begins A Aside (front ++ (t ∷ []))
     begins_deeper front rest t ts parts (Ok r) h less =
         let more = more_in_front front h.used ts r.1 t (compared front h.used (t ∷ ts) r.1 (sym parts ∙ h.parts)) less in
@@ -147,7 +147,7 @@ module _ (A : Type 0) (p : ℕ → Parser A) (S : ℕ → A → List Lexeme → 
         ap (λ (l : List Lexeme). l ++ h.others) more.1 ∙ append_assoc front (t ∷ more.0) h.others ∙ sym (append_assoc front (t ∷ []) (more.0 ++ h.others)) in
         record { value = h.value; further = more.0 ++ h.others; spells = (suc depth, subst (S (suc depth) h.value) whole h.begins) }
 
-    goes_past : (left rest : List Lexeme) → p depth left ≡ Err (s.TooDeep, rest) → length (left_by (p (suc depth) left)) < length rest
+    goes_past : (left rest : List Lexeme) → p depth left ≡ Err (s.TooDeep, rest) → length (tokens_left (p (suc depth) left)) < length rest
     goes_past left rest e = subst (λ v. Extends v (p (suc depth) left)) e ((deep.deepens depth).extends left)
 
     -- a level is not too deep at the end

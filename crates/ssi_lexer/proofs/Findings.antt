@@ -12,7 +12,7 @@ use Rattle.ssi_lexer.specs.Lexemes.{Lexeme}
 use Rattle.ssi_lexer.specs.TokenTests.{Is}
 use Rattle.ssi_lexer.specs.Parsers.{Outcome, Parser}
 use Rattle.ssi_lexer.specs.Laws.{Good, Deepens, Deep}
-use Rattle.ssi_lexer.specs.Spelling.{AtAnyDepth, Begins, NeedsMore, WithEnd, IsEnded, Takes, FitsNothing, FirstFault, FirstTooDeep, StopsInside, Answer, taken, fault_at, too_deep_at, inside, HasOneAnswer, place_of}
+use Rattle.ssi_lexer.specs.Spelling.{AtAnyDepth, Begins, NeedsMore, WithEnd, IsEnded, Takes, FitsNothing, FirstFault, FirstTooDeep, StopsInside, Finding, taken, no_spelling, level_too_deep, no_token, Finds, HasOneFinding, next_place}
 use Rattle.ssi_lexer.proofs.Spellings as spelling
 use Rattle.ssi_lexer.proofs.Spellings.{Follows}
 use Rattle.ssi_lexer.proofs.OneAnswer as one
@@ -20,13 +20,13 @@ use Rattle.ssi_lexer.proofs.OneAnswer.{Compared, longer, shorter, compared}
 use Rattle.ssi_lexer.proofs.Depths as depths
 
 -- what a reader finds: S is the language within the depths, M the one that leaves them aside
-pub record Finds (A : Type 0) (p : Parser A) (S M : A → List Lexeme → Type 0) (ends : Lexeme → Bool) : Type 0 where
+pub record FindsBy (A : Type 0) (p : Parser A) (S M : A → List Lexeme → Type 0) (ends : Lexeme → Bool) : Type 0 where
   -- what is taken is read, and what is read and ends is taken
   pub takes_is : (left : List Lexeme) (end : TextEnd) (x : A) (rest : List Lexeme) → Takes A S ends left end x rest → p left ≡ Ok (x, rest)
   pub found : (left : List Lexeme) (end : TextEnd) (x : A) (rest : List Lexeme) → p left ≡ Ok (x, rest) → IsEnded ends rest end → Takes A S ends left end x rest
   -- the first fault, and the first level too deep
   pub unended : (left : List Lexeme) (end : TextEnd) (x : A) (t : Lexeme) (ts : List Lexeme) → p left ≡ Ok (x, t ∷ ts) → ends t ≡ false → FirstFault A S M ends left end t.place
-  pub stopped : (left rest : List Lexeme) (end : TextEnd) (place : Place) → p left ≡ Err (s.Syntax, rest) → place_of rest end ≡ Ok place → FirstFault A S M ends left end place
+  pub stopped : (left rest : List Lexeme) (end : TextEnd) (place : Place) → p left ≡ Err (s.Syntax, rest) → next_place rest end ≡ Ok place → FirstFault A S M ends left end place
   pub too_deep : (left : List Lexeme) (t : Lexeme) (ts : List Lexeme) → p left ≡ Err (s.TooDeep, t ∷ ts) → FirstTooDeep A S M ends left t.place
   pub not_at_end : (left : List Lexeme) → p left ≡ Err (s.TooDeep, []) → ⊥
   pub no_memory : (left rest : List Lexeme) → p left ≡ Err (s.Memory, rest) → ⊥
@@ -85,55 +85,82 @@ module _ (A : Type 0) (S M : A → List Lexeme → Type 0) (ends : Lexeme → Bo
 
 -- ---- one of them is there, and one only
 
-module _ (A : Type 0) (p : Parser A) (S M : A → List Lexeme → Type 0) (ends : Lexeme → Bool) (finds : Finds A p S M ends) where
-  read_by : (left : List Lexeme) (end : TextEnd) (x : A) (t : Lexeme) (ts : List Lexeme) → p left ≡ Ok (x, t ∷ ts) → (b : Bool) → ends t ≡ b → Answer A S M ends left end
-  read_by left end x t ts e true is = taken x (t ∷ ts) (finds.found left end x (t ∷ ts) e is)
-  read_by left end x t ts e false is = fault_at t.place (finds.unended left end x t ts e is)
+module _ (A : Type 0) (p : Parser A) (S M : A → List Lexeme → Type 0) (ends : Lexeme → Bool) (finds : FindsBy A p S M ends) where
+  -- some finding, which is there
+  abbrev Some : List Lexeme → TextEnd → Type 0
+  Some left end = (found : Finding A) × Finds A S M ends left end found
 
-  some_read : (left : List Lexeme) (end : TextEnd) (x : A) (rest : List Lexeme) → p left ≡ Ok (x, rest) → Answer A S M ends left end
-  some_read left (Finished past) x [] e = taken x [] (finds.found left (Finished past) x [] e tt)
-  some_read left (Faulty fault) x [] e = inside fault (record { begins = finds.read_inside left x e; faulty = refl })
+  read_by : (left : List Lexeme) (end : TextEnd) (x : A) (t : Lexeme) (ts : List Lexeme) → p left ≡ Ok (x, t ∷ ts) → (b : Bool) → ends t ≡ b → Some left end
+  read_by left end x t ts e true is = (taken x (t ∷ ts), finds.found left end x (t ∷ ts) e is)
+  read_by left end x t ts e false is = (no_spelling t.place, finds.unended left end x t ts e is)
+
+  some_read : (left : List Lexeme) (end : TextEnd) (x : A) (rest : List Lexeme) → p left ≡ Ok (x, rest) → Some left end
+  some_read left (Finished past) x [] e = (taken x [], finds.found left (Finished past) x [] e tt)
+  some_read left (Faulty fault) x [] e = (no_token fault, record { begins = finds.read_inside left x e; faulty = refl })
   some_read left end x (t ∷ ts) e = read_by left end x t ts e (ends t) refl
 
-  some_stopped : (left : List Lexeme) (end : TextEnd) (stop : Stop) (rest : List Lexeme) → p left ≡ Err (stop, rest) → Answer A S M ends left end
-  some_stopped left (Finished past) s.Syntax [] e = fault_at past (finds.stopped left [] (Finished past) past e refl)
-  some_stopped left (Faulty fault) s.Syntax [] e = inside fault (record { begins = finds.stopped_inside left s.Syntax e; faulty = refl })
-  some_stopped left end s.Syntax (t ∷ ts) e = fault_at t.place (finds.stopped left (t ∷ ts) end t.place e refl)
+  some_stopped : (left : List Lexeme) (end : TextEnd) (stop : Stop) (rest : List Lexeme) → p left ≡ Err (stop, rest) → Some left end
+  some_stopped left (Finished past) s.Syntax [] e = (no_spelling past, finds.stopped left [] (Finished past) past e refl)
+  some_stopped left (Faulty fault) s.Syntax [] e = (no_token fault, record { begins = finds.stopped_inside left s.Syntax e; faulty = refl })
+  some_stopped left end s.Syntax (t ∷ ts) e = (no_spelling t.place, finds.stopped left (t ∷ ts) end t.place e refl)
   some_stopped left end s.TooDeep [] e = absurd (finds.not_at_end left e)
-  some_stopped left end s.TooDeep (t ∷ ts) e = too_deep_at t.place (finds.too_deep left t ts e)
+  some_stopped left end s.TooDeep (t ∷ ts) e = (level_too_deep t.place, finds.too_deep left t ts e)
   some_stopped left end s.Memory rest e = absurd (finds.no_memory left rest e)
 
-  some_by : (left : List Lexeme) (end : TextEnd) (o : Outcome A) → p left ≡ o → Answer A S M ends left end
+  some_by : (left : List Lexeme) (end : TextEnd) (o : Outcome A) → p left ≡ o → Some left end
   some_by left end (Ok r) e = some_read left end r.0 r.1 e
   some_by left end (Err halt) e = some_stopped left end halt.0 halt.1 e
 
-  some_answer : (left : List Lexeme) (end : TextEnd) → Answer A S M ends left end
-  some_answer left end = some_by left end (p left) refl
+  some_finding : (left : List Lexeme) (end : TextEnd) → Some left end
+  some_finding left end = some_by left end (p left) refl
 
 module _ (A : Type 0) (p : Parser A) (S M : A → List Lexeme → Type 0) (E F : List Lexeme → Type 0) (good : Good A p S E F) (ends : Lexeme → Bool) (follows : Follows F ends)
-    (within : (x : A) (u : List Lexeme) → S x u → M x u) (finds : Finds A p S M ends) where
-  -- any tokens and their end have exactly one of these in them
-  one_of_all : HasOneAnswer A S M ends
-  one_of_all =
-      let fault = fault_within A S M ends within in
-      let deep = deep_within A S M ends within in
-      record {
-        some = some_answer A p S M ends finds;
-        one_taken = one.one_taken A p S E F good ends follows;
-        one_fault = λ left end a b f g. one.one_fault A p S E F good ends follows left end a b (fault left end a f) (fault left end b g);
-        one_too_deep = λ left a b f g. one.one_fault A p S E F good ends follows left (Finished a) a b (deep left (Finished a) a f) (deep left (Finished a) b g);
-        taken_has_no_fault = λ left end x rest a t f. one.taken_has_no_fault A p S E F good ends follows left end x rest a t (fault left end a f);
-        taken_not_too_deep = λ left end x rest a t f. one.taken_has_no_fault A p S E F good ends follows left end x rest a t (deep left end a f);
-        taken_not_inside = one.taken_not_inside A p S E F good ends follows;
-        fault_not_too_deep = fault_not_too_deep A S M ends within follows.some follows.some_is;
-        inside_has_no_fault = λ left end a at inside f. one.inside_has_no_fault A p S E F good ends follows left end a at inside (fault left end a f);
-        inside_not_too_deep = λ left end a at inside f. one.inside_has_no_fault A p S E F good ends follows left end a at inside (deep left end a f);
-      }
+    (within : (x : A) (u : List Lexeme) → S x u → M x u) (left : List Lexeme) (end : TextEnd) where
+  abbrev There : Finding A → Type 0
+  There = Finds A S M ends left end
+
+  -- a fault and a level too deep are faults within the depths
+  fault : (place : Place) → There (no_spelling place) → FirstFault A S S ends left end place
+  fault place f = fault_within A S M ends within left end place f
+
+  deep : (place : Place) → There (level_too_deep place) → FirstFault A S S ends left end place
+  deep place f = deep_within A S M ends within left end place f
+
+  same_taken : (x y : A) (rest more : List Lexeme) → (x ≡ y) × (rest ≡ more) → taken x rest ≡ taken y more
+  same_taken x y rest more same = ap (λ z. taken z rest) same.0 ∙ ap (taken y) same.1
+
+  same_token : (a b : LexFault) → end ≡ Faulty a → end ≡ Faulty b → a ≡ b
+  same_token a b e h = cc
+
+  -- where one is there, no other is
+  one_there : (a b : Finding A) → There a → There b → a ≡ b
+  one_there (taken x rest) (taken y more) t u = same_taken x y rest more (one.one_taken A p S E F good ends follows left end x y rest more t u)
+  one_there (taken x rest) (no_spelling q) t g = absurd (one.taken_has_no_fault A p S E F good ends follows left end x rest q t (fault q g))
+  one_there (taken x rest) (level_too_deep q) t g = absurd (one.taken_has_no_fault A p S E F good ends follows left end x rest q t (deep q g))
+  one_there (taken x rest) (no_token b) t j = absurd (one.taken_not_inside A p S E F good ends follows left end x rest b t j)
+  one_there (no_spelling a) (taken y more) f u = absurd (one.taken_has_no_fault A p S E F good ends follows left end y more a u (fault a f))
+  one_there (no_spelling a) (no_spelling b) f g = ap no_spelling (one.one_fault A p S E F good ends follows left end a b (fault a f) (fault b g))
+  one_there (no_spelling a) (level_too_deep b) f g = absurd (fault_not_too_deep A S M ends within follows.some follows.some_is left end a b f g)
+  one_there (no_spelling a) (no_token b) f j = absurd (one.inside_has_no_fault A p S E F good ends follows left end a b j (fault a f))
+  one_there (level_too_deep a) (taken y more) f u = absurd (one.taken_has_no_fault A p S E F good ends follows left end y more a u (deep a f))
+  one_there (level_too_deep a) (no_spelling b) f g = absurd (fault_not_too_deep A S M ends within follows.some follows.some_is left end b a g f)
+  one_there (level_too_deep a) (level_too_deep b) f g = ap level_too_deep (one.one_fault A p S E F good ends follows left end a b (deep a f) (deep b g))
+  one_there (level_too_deep a) (no_token b) f j = absurd (one.inside_has_no_fault A p S E F good ends follows left end a b j (deep a f))
+  one_there (no_token a) (taken y more) i u = absurd (one.taken_not_inside A p S E F good ends follows left end y more a u i)
+  one_there (no_token a) (no_spelling b) i g = absurd (one.inside_has_no_fault A p S E F good ends follows left end b a i (fault b g))
+  one_there (no_token a) (level_too_deep b) i g = absurd (one.inside_has_no_fault A p S E F good ends follows left end b a i (deep b g))
+  one_there (no_token a) (no_token b) i j = ap no_token (same_token a b i.faulty j.faulty)
+
+module _ (A : Type 0) (p : Parser A) (S M : A → List Lexeme → Type 0) (E F : List Lexeme → Type 0) (good : Good A p S E F) (ends : Lexeme → Bool) (follows : Follows F ends)
+    (within : (x : A) (u : List Lexeme) → S x u → M x u) (finds : FindsBy A p S M ends) where
+  -- any tokens and their end have exactly one finding in them
+  one_of_all : HasOneFinding A (Finds A S M ends)
+  one_of_all = record { some = some_finding A p S M ends finds; one = one_there A p S M E F good ends follows within }
 
 -- ---- a language by depth
 
 module _ (A : Type 0) (p : ℕ → Parser A) (S : ℕ → A → List Lexeme → Type 0) (E F : List Lexeme → Type 0) (deep : Deep A p S E F) (ends : Lexeme → Bool) (follows : Follows F ends) (depth : ℕ) where
-  pub deep_finds : Finds A (p depth) (S depth) (AtAnyDepth A S) ends
+  pub deep_finds : FindsBy A (p depth) (S depth) (AtAnyDepth A S) ends
   deep_finds = record {
     takes_is = spelling.takes_is A (p depth) (S depth) E F (deep.good depth) ends follows;
     found = spelling.found A (p depth) (S depth) E F (deep.good depth) ends follows;
@@ -146,8 +173,8 @@ module _ (A : Type 0) (p : ℕ → Parser A) (S : ℕ → A → List Lexeme → 
     stopped_inside = spelling.stopped_inside A (p depth) (S depth) E F (deep.good depth) ends follows;
   }
 
-  pub deep_answer : HasOneAnswer A (S depth) (AtAnyDepth A S) ends
-  deep_answer = one_of_all A (p depth) (S depth) (AtAnyDepth A S) E F (deep.good depth) ends follows (λ x u h. (depth, h)) deep_finds
+  pub deep_finding : HasOneFinding A (Finds A (S depth) (AtAnyDepth A S) ends)
+  deep_finding = one_of_all A (p depth) (S depth) (AtAnyDepth A S) E F (deep.good depth) ends follows (λ x u h. (depth, h)) deep_finds
 
 -- ---- a language without levels
 
@@ -179,7 +206,7 @@ module _ (A : Type 0) (p : Parser A) (S : A → List Lexeme → Type 0) (E F : L
         there = f.there;
       })
 
-  pub flat_finds : Finds A p S S ends
+  pub flat_finds : FindsBy A p S S ends
   flat_finds = record {
     takes_is = spelling.takes_is A p S E F good ends follows;
     found = spelling.found A p S E F good ends follows;
@@ -192,5 +219,5 @@ module _ (A : Type 0) (p : Parser A) (S : A → List Lexeme → Type 0) (E F : L
     stopped_inside = spelling.stopped_inside A p S E F good ends follows;
   }
 
-  pub flat_answer : HasOneAnswer A S S ends
-  flat_answer = one_of_all A p S S E F good ends follows (λ x u h. h) flat_finds
+  pub flat_finding : HasOneFinding A (Finds A S S ends)
+  flat_finding = one_of_all A p S S E F good ends follows (λ x u h. h) flat_finds

@@ -9,7 +9,7 @@ use Rattle.ssi_lexer.specs.declared.scan.Cursor.{Cursor}
 use Rattle.ssi_lexer.specs.declared.scan.Ahead.{Ahead}
 use Rattle.ssi_lexer.specs.declared.scan.Ahead.TheVariants.{Next}
 use Rattle.ssi_lexer.specs.Pieces.{Separator, Comment, A, is_separator, is_piece, bad_character_code}
-use Rattle.ssi_lexer.specs.Scan.{token_kind_at, a_token, kind_at, run_of, rest_of, code_of, past, with_lexeme, stream, goes_on, IsNoGap, token_at, past_token, no_more, fault_at, AreItsCharacters, IsWithin}
+use Rattle.ssi_lexer.specs.Scan.{token_kind_at, a_token, kind_at, run_of, rest_of, code_of, past, with_lexeme, stream, goes_on, IsNoGap, token_at, past_token, no_more, faulty_here, AreItsCharacters, IsWithin}
 use Rattle.ssi_lexer.proofs.Runs.{past_piece}
 use Rattle.ssi_lexer.proofs.Cuts.{stream-nil, stream_piece, stream_fault, stream_bad}
 
@@ -50,11 +50,11 @@ token_front kind cursor b bs characters rest ahead after is_kind no_feed chars_a
 
 pub fault_front : (kind : TokenKind) (cursor : Cursor) (b : ℕ) (bs characters : List ℕ) (code : ℕ)
     → kind_at b ≡ Some (A kind) → characters ≡ b ∷ run_of (A kind) bs → (is_piece (A kind) characters ≡ false) × (code ≡ code_of (A kind))
-    → fault_at cursor code ≡ stream cursor (b ∷ bs)
+    → faulty_here cursor code ≡ stream cursor (b ∷ bs)
 fault_front kind cursor b bs characters code is_kind chars_are h =
-    ap (fault_at cursor) h.1 ∙ sym (stream_fault (A kind) cursor b bs is_kind (ap (is_piece (A kind)) (sym chars_are) ∙ h.0))
+    ap (faulty_here cursor) h.1 ∙ sym (stream_fault (A kind) cursor b bs is_kind (ap (is_piece (A kind)) (sym chars_are) ∙ h.0))
 
-pub bad_front : (cursor : Cursor) (b : ℕ) (bs : List ℕ) → kind_at b ≡ None → fault_at cursor bad_character_code ≡ stream cursor (b ∷ bs)
+pub bad_front : (cursor : Cursor) (b : ℕ) (bs : List ℕ) → kind_at b ≡ None → faulty_here cursor bad_character_code ≡ stream cursor (b ∷ bs)
 bad_front cursor b bs e = sym (stream_bad cursor b bs e)
 
 pub kind_at_separator : (b : ℕ) → is_separator b ≡ true → kind_at b ≡ Some Separator

@@ -3,7 +3,7 @@ use Rattle.std.proofs.Common.{◌≡◌, ◌≤◌, List, [], ◌∷◌, ◌++�
 use Rattle.ssi_lexer.specs.declared.wanted.Stop.{Stop}
 use Rattle.ssi_lexer.specs.Lexemes.{Lexeme}
 use Rattle.ssi_lexer.specs.Parsers.{Outcome, Parser, and_then, pure, ◌&◌, mapped}
-use Rattle.ssi_lexer.specs.Laws.{first_lexeme, BeginAlike, Took, Halted, Explains, Good, left_by}
+use Rattle.ssi_lexer.specs.Laws.{first_lexeme, BeginAlike, Took, Halted, Explains, Good, tokens_left}
 
 -- what stands before keeps two lists alike
 pub alike_after : (u a b : List Lexeme) → BeginAlike a b → BeginAlike (u ++ a) (u ++ b)
@@ -132,10 +132,10 @@ module _ (A : Type 0) (p : Parser A) (S : A → List Lexeme → Type 0) (E F : L
   pub no_longer : (ts : List Lexeme) (x : A) (rest : List Lexeme) → p ts ≡ Ok (x, rest) → length rest ≤ length ts
   no_longer ts x rest h = let t = took ts x rest h in omega (arith, ap length t.parts, length-append t.used rest)
 
-  left_of_all : (ts : List Lexeme) (o : Outcome A) → Explains A p S E ts o → length (left_by o) ≤ length ts
+  left_of_all : (ts : List Lexeme) (o : Outcome A) → Explains A p S E ts o → length (tokens_left o) ≤ length ts
   left_of_all ts (Ok r) h = let t = ap length h.parts in omega (arith, t, length-append h.used r.1)
   left_of_all ts (Err halt) h = let t = ap length h.parts in omega (arith, t, length-append h.front halt.1)
 
   -- a reader leaves no more than there was
-  pub leaves_no_more : (ts : List Lexeme) → length (left_by (p ts)) ≤ length ts
+  pub leaves_no_more : (ts : List Lexeme) → length (tokens_left (p ts)) ≤ length ts
   leaves_no_more ts = left_of_all ts (p ts) (g.explains ts)

@@ -58,17 +58,17 @@ module _ (mark : Lexeme → Bool) (some_mark : Lexeme) (some_mark_is : Is mark s
   abbrev with_more : Outcome A → Outcome (A × List A)
   with_more o = and_then o (λ a. λ mid. and_then (turns mark (behind mark p) [] mid) (λ b. pure (a, b)))
 
-  abbrev joined : Outcome (A × List A) → Outcome (List A)
-  joined o = and_then o (λ z. pure (z.0 ∷ z.1))
+  abbrev in_one_list : Outcome (A × List A) → Outcome (List A)
+  in_one_list o = and_then o (λ z. pure (z.0 ∷ z.1))
 
   abbrev paired : A → Outcome (List A) → Outcome (A × List A)
   paired x o = and_then o (λ b. pure (x, b))
 
-  as_pair : (x : A) (o : Outcome (List A)) → and_then o (λ xs. λ rest. Ok ((x ∷ []) ++ xs, rest)) ≡ joined (paired x o)
+  as_pair : (x : A) (o : Outcome (List A)) → and_then o (λ xs. λ rest. Ok ((x ∷ []) ++ xs, rest)) ≡ in_one_list (paired x o)
   as_pair x (Ok s) = refl
   as_pair x (Err halt) = refl
 
-  parted_by : (o : Outcome A) → and_then o (λ a. turns mark (behind mark p) (a ∷ [])) ≡ joined (with_more o)
+  parted_by : (o : Outcome A) → and_then o (λ a. turns mark (behind mark p) (a ∷ [])) ≡ in_one_list (with_more o)
   parted_by (Err halt) = refl
   parted_by (Ok r) = turns_found A mark (behind mark p) (Behind mark A S) E F starts meets good_behind (r.0 ∷ []) r.1 ∙ as_pair r.0 (turns mark (behind mark p) [] r.1)
 

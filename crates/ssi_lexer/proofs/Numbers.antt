@@ -13,10 +13,10 @@ use Rattle.ssi_lexer.specs.declared.token.TokenKind.{TokenKind}
 use Rattle.ssi_lexer.specs.declared.token.TokenKind.TheVariants.{Number}
 use Rattle.ssi_lexer.specs.Pieces.{A, is_digit, is_piece, IsRun}
 use Rattle.ssi_lexer.specs.declared.token.Token.{Token}
-use Rattle.ssi_lexer.specs.Lexemes.{Lexeme, IsLexeme, token_of}
+use Rattle.ssi_lexer.specs.Lexemes.{Lexeme, IsLexeme, token_of, value_of_digits}
 use Rattle.ssi_lexer.specs.Readings.{first_of, first_text}
 use Rattle.ssi_lexer.specs.TokenTests.{Is, is_same_kind, of_kind, number, sees}
-use Rattle.ssi_lexer.specs.Parsers.{at_first, value_of_digits, number_at}
+use Rattle.ssi_lexer.specs.Parsers.{at_first, number_at}
 
 abbrev IsDigit : ℕ → Type 0
 IsDigit c = is_digit c ≡ true

@@ -10,7 +10,7 @@ use Rattle.ssi_lexer.specs.declared.wanted.Stop.{Stop}
 use Rattle.ssi_lexer.specs.Lexemes.{Lexeme}
 use Rattle.ssi_lexer.specs.Parsers.{Outcome, Parser}
 use Rattle.ssi_lexer.specs.Laws.{first_lexeme, BeginAlike, Took, Good}
-use Rattle.ssi_lexer.specs.Spelling.{Begins, NeedsMore, WithEnd, IsEnded, Takes, FitsNothing, FirstFault, StopsInside, place_of}
+use Rattle.ssi_lexer.specs.Spelling.{Begins, NeedsMore, WithEnd, IsEnded, Takes, FitsNothing, FirstFault, StopsInside, next_place}
 use Rattle.ssi_lexer.proofs.Joining.{took}
 use Rattle.ssi_lexer.proofs.Spellings.{Follows, takes_is, found, begins_with_end, end_read, stopped_first, unended_first, stopped_inside, read_inside, value_is, rest_is, first_is}
 
@@ -56,7 +56,7 @@ module _ (A : Type 0) (p : Parser A) (S : A → List Lexeme → Type 0) (E F : L
   Ended = WithEnd A S ends
 
   -- a fault is where its tokens stand
-  fault_place : (front rest : List Lexeme) (end : TextEnd) (place : Place) → FitsNothing A S ends front rest end place → place_of rest end ≡ Ok place
+  fault_place : (front rest : List Lexeme) (end : TextEnd) (place : Place) → FitsNothing A S ends front rest end place → next_place rest end ≡ Ok place
   fault_place front [] (Finished past) place f = ap Ok (sym f.0)
   fault_place front [] (Faulty fault) place f = absurd f
   fault_place front (t ∷ ts) end place f = ap Ok (sym f.0)
@@ -67,13 +67,13 @@ module _ (A : Type 0) (p : Parser A) (S : A → List Lexeme → Type 0) (E F : L
       let there : FitsNothing A S ends front (t ∷ more) end place = subst (λ (ts : List Lexeme). FitsNothing A S ends front ts end place) is f in
       there.1 (begins_less A Ended front t e b)
 
-  same_place : (a b : Place) (left : List Lexeme) (end : TextEnd) → place_of left end ≡ Ok a → place_of left end ≡ Ok b → a ≡ b
+  same_place : (a b : Place) (left : List Lexeme) (end : TextEnd) → next_place left end ≡ Ok a → next_place left end ≡ Ok b → a ≡ b
   same_place a b left end e h = let same = sym e ∙ h in cc
 
   -- what two faults of the same tokens have to do with each other
   fault_by : (left : List Lexeme) (end : TextEnd) (a b : Place) (f : FirstFault A S S ends left end a) (g : FirstFault A S S ends left end b) → Compared f.front g.front f.rest g.rest → a ≡ b
   fault_by left end a b f g (longer [] same rest) =
-      same_place a b f.rest end (fault_place f.front f.rest end a f.fault) (ap (λ (ts : List Lexeme). place_of ts end) rest ∙ fault_place g.front g.rest end b g.fault)
+      same_place a b f.rest end (fault_place f.front f.rest end a f.fault) (ap (λ (ts : List Lexeme). next_place ts end) rest ∙ fault_place g.front g.rest end b g.fault)
   fault_by left end a b f g (longer (t ∷ e) same rest) =
       absurd (none_past f.front f.rest (e ++ g.rest) end a t e f.fault rest (subst (Begins A Ended) same (begins_of A Ended g.front g.begins)))
   fault_by left end a b f g (shorter t e same rest) =

@@ -9,9 +9,9 @@ use Rattle.ssi_lexer.proofs.Choosing.{Without}
 use Rattle.ssi_lexer.proofs.Starting.{without_after}
 
 -- the first may end anywhere
-pub joined : {A B : Type 0} {p : Parser A} {q : Parser B} {S : A → List Lexeme → Type 0} {T : B → List Lexeme → Type 0} {D E F : List Lexeme → Type 0}
+pub good_then : {A B : Type 0} {p : Parser A} {q : Parser B} {S : A → List Lexeme → Type 0} {T : B → List Lexeme → Type 0} {D E F : List Lexeme → Type 0}
     → Good A p S D Always → Good B q T E F → Good (A × B) (p & q) (Both A B S T) E F
-joined {A = A} {B = B} {p = p} {q = q} {S = S} {T = T} {D = D} {E = E} {F = F} g h = good_both A B p q S T D Always E F (λ y v rest t k. tt) g h
+good_then {A = A} {B = B} {p = p} {q = q} {S = S} {T = T} {D = D} {E = E} {F = F} g h = good_both A B p q S T D Always E F (λ y v rest t k. tt) g h
 
 -- the first ends where no such token comes, and the second begins with another
 pub joined_by : {A B : Type 0} {p : Parser A} {q : Parser B} {S : A → List Lexeme → Type 0} {T : B → List Lexeme → Type 0} {D E F : List Lexeme → Type 0} (other test : Lexeme → Bool)

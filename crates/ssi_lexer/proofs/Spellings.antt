@@ -9,7 +9,7 @@ use Rattle.ssi_lexer.specs.Lexemes.{Lexeme}
 use Rattle.ssi_lexer.specs.TokenTests.{Is}
 use Rattle.ssi_lexer.specs.Parsers.{Outcome, Parser}
 use Rattle.ssi_lexer.specs.Laws.{BeginAlike, Good}
-use Rattle.ssi_lexer.specs.Spelling.{Begins, NeedsMore, WithEnd, IsEnded, Takes, FitsNothing, FirstFault, HasOneValue, place_of}
+use Rattle.ssi_lexer.specs.Spelling.{Begins, NeedsMore, WithEnd, IsEnded, Takes, FitsNothing, FirstFault, HasOneValue, next_place}
 use Rattle.ssi_lexer.proofs.Joining.{took, halted}
 
 -- ---- two answers of one reader
@@ -103,14 +103,14 @@ module _ (A : Type 0) (p : Parser A) (S : A → List Lexeme → Type 0) (E F : L
       let is : Is ends t = subst (Is ends) (sym last) b.spells.ends_it in
       absurd cc
 
-  pub fits_nothing : (front rest : List Lexeme) (end : TextEnd) (place : Place) (stop : Stop) → place_of rest end ≡ Ok place → ((other : List Lexeme) → BeginAlike other rest → p (front ++ other) ≡ Err (stop, other))
+  pub fits_nothing : (front rest : List Lexeme) (end : TextEnd) (place : Place) (stop : Stop) → next_place rest end ≡ Ok place → ((other : List Lexeme) → BeginAlike other rest → p (front ++ other) ≡ Err (stop, other))
       → FitsNothing A S ends front rest end place
   fits_nothing front [] (Finished past) place stop e again = (cc, λ x s. not_both A (p (front ++ [])) (stop, []) x [] (again [] refl) (good.complete x front [] s follows.at_end))
   fits_nothing front [] (Faulty fault) place stop e again = absurd cc
   fits_nothing front (t ∷ ts) end place stop e again = (cc, none_begins front t stop again)
 
   -- the reader stops at the first fault
-  pub stopped_first : (left rest : List Lexeme) (end : TextEnd) (place : Place) (stop : Stop) → p left ≡ Err (stop, rest) → place_of rest end ≡ Ok place → FirstFault A S S ends left end place
+  pub stopped_first : (left rest : List Lexeme) (end : TextEnd) (place : Place) (stop : Stop) → p left ≡ Err (stop, rest) → next_place rest end ≡ Ok place → FirstFault A S S ends left end place
   stopped_first left rest end place stop e at =
       let h = halted A p S E F good left stop rest e in
       record { front = h.front; rest = rest; parts = h.parts; begins = begins_with_end h.front h.value h.others h.begins; fault = fits_nothing h.front rest end place stop at h.again }

@@ -8,7 +8,7 @@ use Rattle.ssi_base.specs.declared.place.Place.{Place}
 use Rattle.ssi_lexer.specs.declared.token.TextEnd.{TextEnd}
 use Rattle.ssi_lexer.specs.declared.scan.Cursor.{Cursor}
 use Rattle.ssi_lexer.specs.Pieces.{PieceKind, Separator, Comment, A, Piece, IsRun, is_piece, IsCutting, text_ends, bad_character, long_name, bad_number, a_piece}
-use Rattle.ssi_lexer.specs.Lexemes.{Lexeme, first_place, place_past, place_after, lexeme_at, lexemes_of, joined, end_at, AreTokens, IsLexeme}
+use Rattle.ssi_lexer.specs.Lexemes.{Lexeme, first_place, place_past, place_after, lexeme_at, lexemes_of, bytes_of, end_at, AreTokens, IsLexeme}
 use Rattle.ssi_lexer.specs.Scan.{cut_of, count_of, past, with_lexeme, stream_of, stream, Stream}
 use Rattle.ssi_lexer.proofs.Cuttings.{cut_is, cut_unique}
 
@@ -42,15 +42,15 @@ with_lexeme_is Comment start number before bytes lexemes end = refl
 with_lexeme_is (A kind) start number before bytes lexemes end = refl
 
 stream_joins : (pieces : List Piece) (fault : Option ℕ) (start number : ℕ) (before : List ℕ)
-    → stream_of (cursor_at start number before) pieces fault ≡ (lexemes_of start number before pieces, end_at (place_after (before ++ joined pieces)) fault)
+    → stream_of (cursor_at start number before) pieces fault ≡ (lexemes_of start number before pieces, end_at (place_after (before ++ bytes_of pieces)) fault)
 stream_joins [] fault start number before = ap (λ (bs : List ℕ). ([], end_at (place_after bs) fault)) (sym (append-nil before))
 stream_joins (piece ∷ pieces) fault start number before =
     let here = lexeme_at start number before piece.kind piece.bytes in
     let more = lexemes_of start (number + length here) (before ++ piece.bytes) pieces in
     ap (λ (c : Cursor). with_lexeme piece.kind piece.bytes (cursor_at start number before) (stream_of c pieces fault)) (past_at start number before piece)
     ∙ ap (with_lexeme piece.kind piece.bytes (cursor_at start number before)) (stream_joins pieces fault start (number + length here) (before ++ piece.bytes))
-    ∙ with_lexeme_is piece.kind start number before piece.bytes more (end_at (place_after ((before ++ piece.bytes) ++ joined pieces)) fault)
-    ∙ ap (λ (bs : List ℕ). (here ++ more, end_at (place_after bs) fault)) (append_assoc before piece.bytes (joined pieces))
+    ∙ with_lexeme_is piece.kind start number before piece.bytes more (end_at (place_after ((before ++ piece.bytes) ++ bytes_of pieces)) fault)
+    ∙ ap (λ (bs : List ℕ). (here ++ more, end_at (place_after bs) fault)) (append_assoc before piece.bytes (bytes_of pieces))
 
 -- where a text is begun to be read
 abbrev pub first_cursor : ℕ → Cursor
@@ -60,7 +60,7 @@ first_is : (start : ℕ) → first_cursor start ≡ cursor_at start 0 []
 first_is start = same_cursor start (start + 0) 0 0 first_place first_place (omega arith) refl refl
 
 tokens_of_cut : (start : ℕ) (bs : List ℕ)
-    → stream (first_cursor start) bs ≡ (lexemes_of start 0 [] (cut_of bs).pieces, end_at (place_after (joined (cut_of bs).pieces)) (cut_of bs).fault)
+    → stream (first_cursor start) bs ≡ (lexemes_of start 0 [] (cut_of bs).pieces, end_at (place_after (bytes_of (cut_of bs).pieces)) (cut_of bs).fault)
 tokens_of_cut start bs = ap (λ (c : Cursor). stream c bs) (first_is start) ∙ stream_joins (cut_of bs).pieces (cut_of bs).fault start 0 []
 
 -- the tokens that the code finds are tokens of the text
@@ -87,7 +87,7 @@ pub tokens_unique : (text : List ℕ) (start : ℕ) (lexemes : List Lexeme) (end
     → (lexemes ≡ (stream (first_cursor start) (drop start text)).0) × (end ≡ (stream (first_cursor start) (drop start text)).1)
 tokens_unique text start lexemes end t =
     let same = cut_unique t.pieces (drop start text) t.fault t.cut in
-    let found = ap (λ cut. (lexemes_of start 0 [] cut.pieces, end_at (place_after (joined cut.pieces)) cut.fault)) same in
+    let found = ap (λ cut. (lexemes_of start 0 [] cut.pieces, end_at (place_after (bytes_of cut.pieces)) cut.fault)) same in
     let whole = tokens_of_cut start (drop start text) ∙ found in
     (t.lexemes_are ∙ sym (ap (λ (s : Stream). s.0) whole), t.end_is ∙ sym (ap (λ (s : Stream). s.1) whole))
 

@@ -61,14 +61,14 @@ pub record Good (A : Type 0) (p : Parser A) (S : A → List Lexeme → Type 0) (
   pub sample_is : S sample text
 
 -- the tokens that are left, by what a reader answers
-abbrev pub left_by : {A : Type 0} → Outcome A → List Lexeme
-left_by (Ok r) = r.1
-left_by (Err halt) = halt.1
+abbrev pub tokens_left : {A : Type 0} → Outcome A → List Lexeme
+tokens_left (Ok r) = r.1
+tokens_left (Err halt) = halt.1
 
 -- where a reader stops, one that takes a level more stops too, or it goes past a level that was too deep
 abbrev pub GoesPast : {A : Type 0} → Stop → List Lexeme → Outcome A → Type 0
 GoesPast s.Syntax rest deeper = deeper ≡ Err (s.Syntax, rest)
-GoesPast s.TooDeep rest deeper = length (left_by deeper) < length rest
+GoesPast s.TooDeep rest deeper = length (tokens_left deeper) < length rest
 GoesPast s.Memory rest deeper = ⊥
 
 -- what a reader answers, and one that takes a level more
@@ -80,7 +80,7 @@ Extends (Err halt) deeper = GoesPast halt.0 halt.1 deeper
 -- language without levels takes no more, and never stops at one: it is both.
 pub record Deepens (A : Type 0) (p q : Parser A) : Type 0 where
   pub extends : (ts : List Lexeme) → Extends (p ts) (q ts)
-  pub no_longer : (ts : List Lexeme) → length (left_by (q ts)) ≤ length ts
+  pub no_longer : (ts : List Lexeme) → length (tokens_left (q ts)) ≤ length ts
 
 -- readers of a language by its depth
 pub record Deep (A : Type 0) (p : ℕ → Parser A) (S : ℕ → A → List Lexeme → Type 0) (E F : List Lexeme → Type 0) : Type 0 where

@@ -1,5 +1,5 @@
 -- The tokens of a text, each with its characters and its place.
-use Rattle.std.specs.Prelude.{◌≡◌, ℕ, ◌+◌, ◌≤◌, ◌==◌, true, if◌then◌else◌, List, [], ◌∷◌, ◌++◌, length, drop, slice_range, fold, Option, Some, None}
+use Rattle.std.specs.Prelude.{◌≡◌, ℕ, ◌+◌, ◌-◌, ◌*◌, ◌≤◌, ◌==◌, true, if◌then◌else◌, List, [], ◌∷◌, ◌++◌, length, take, drop, slice_range, fold, Option, Some, None}
 use Rattle.ssi_base.specs.declared.place.Place.{Place}
 use Rattle.ssi_lexer.specs.declared.token.TokenKind.{TokenKind}
 use Rattle.ssi_lexer.specs.declared.token.Token.{Token}
@@ -17,6 +17,14 @@ pub record Lexeme : Type 0 where
 
 abbrev pub token_of : Lexeme → Token
 token_of lexeme = record { kind = lexeme.kind; start = lexeme.start; len = length lexeme.text; number = lexeme.number; place = lexeme.place }
+
+-- so many characters of the text from a start on
+abbrev pub characters_at : List ℕ → ℕ → ℕ → List ℕ
+characters_at text start len = take len (drop start text)
+
+-- the number that decimal digits stand for
+abbrev pub value_of_digits : List ℕ → ℕ
+value_of_digits digits = fold (λ value digit. 10 * value + (digit - 48)) 0 digits
 
 abbrev pub first_place : Place
 first_place = record { line = 1; column = 1 }
@@ -43,9 +51,9 @@ lexemes_of start number before (piece ∷ pieces) =
     let here = lexeme_at start number before piece.kind piece.bytes in
     here ++ lexemes_of start (number + length here) (before ++ piece.bytes) pieces
 
-abbrev pub joined : List Piece → List ℕ
-joined [] = []
-joined (piece ∷ pieces) = piece.bytes ++ joined pieces
+abbrev pub bytes_of : List Piece → List ℕ
+bytes_of [] = []
+bytes_of (piece ∷ pieces) = piece.bytes ++ bytes_of pieces
 
 -- how the tokens end: with the text, or at a fault
 abbrev pub end_at : Place → Option ℕ → TextEnd
@@ -58,7 +66,7 @@ pub record AreTokens (text : List ℕ) (start : ℕ) (lexemes : List Lexeme) (en
   pub fault : Option ℕ
   pub cut : IsCutting pieces (drop start text) fault
   pub lexemes_are : lexemes ≡ lexemes_of start 0 [] pieces
-  pub end_is : end ≡ end_at (place_after (joined pieces)) fault
+  pub end_is : end ≡ end_at (place_after (bytes_of pieces)) fault
 
 -- the token's characters are, by themselves, a piece of its kind
 pub record IsLexeme (lexeme : Lexeme) : Type 0 where

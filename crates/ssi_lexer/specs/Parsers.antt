@@ -1,11 +1,11 @@
 -- What a reader computes, as a function of the tokens that are left. Proofs go by it; no clause of a reader that is
 -- offered to the layers above cites it, since the grammar says what is read.
-use Rattle.std.specs.Prelude.{◌≡◌, ℕ, zero, suc, ◌+◌, ◌-◌, ◌*◌, fold, Bool, if◌then◌else◌, List, [], ◌∷◌, ◌++◌, length, Option, Some, None, Result, Ok, Err, Vec}
+use Rattle.std.specs.Prelude.{◌≡◌, ℕ, zero, suc, Bool, if◌then◌else◌, List, [], ◌∷◌, ◌++◌, length, Option, Some, None, Result, Ok, Err, Vec}
 use Rattle.std.specs.declared.alloc.Global.{Global}
 use Rattle.ssi_lexer.specs.declared.token.Token.{Token}
 use Rattle.ssi_lexer.specs.declared.wanted.Stop.{Stop}
 use Rattle.ssi_lexer.specs.declared.wanted.Stop.TheVariants as s
-use Rattle.ssi_lexer.specs.Lexemes.{Lexeme, token_of}
+use Rattle.ssi_lexer.specs.Lexemes.{Lexeme, token_of, value_of_digits}
 use Rattle.ssi_lexer.specs.TokenTests.{sees, comma, number}
 
 -- a value and the tokens after it, or why the reader stops and before which tokens
@@ -59,10 +59,6 @@ or_stop all ts (Some x) = Ok (x, ts)
 unfoldable pub valued : {A : Type 0} → (Lexeme → Option A) → Parser A
 valued f [] = Err (s.Syntax, [])
 valued f (t ∷ ts) = or_stop (t ∷ ts) ts (f t)
-
--- the number that decimal digits stand for
-abbrev pub value_of_digits : List ℕ → ℕ
-value_of_digits digits = fold (λ value digit. 10 * value + (digit - 48)) 0 digits
 
 -- the number that a token is, if it is one
 abbrev pub number_at : Lexeme → Option ℕ

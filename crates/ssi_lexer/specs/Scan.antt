@@ -50,8 +50,8 @@ pub record Cut : Type 0 where
   pub fault : Option ℕ
 
 -- no more pieces
-abbrev pub ended : Option ℕ → Cut
-ended fault = record { pieces = []; fault = fault }
+abbrev pub no_pieces : Option ℕ → Cut
+no_pieces fault = record { pieces = []; fault = fault }
 
 -- the code of a run of the kind that is no piece
 abbrev pub code_of : PieceKind → ℕ
@@ -68,17 +68,17 @@ code_of (A Close) = long_name_code
 -- with a piece in front, where the run is one
 abbrev pub with_piece : Bool → PieceKind → List ℕ → Cut → Cut
 with_piece true kind run cut = record { pieces = record { kind = kind; bytes = run } ∷ cut.pieces; fault = cut.fault }
-with_piece false kind run cut = ended (Some (code_of kind))
+with_piece false kind run cut = no_pieces (Some (code_of kind))
 
 -- the pieces of a text that begins with a piece of the kind, or with none
 abbrev pub begun : Option PieceKind → ℕ → List ℕ → (PieceKind → Cut) → Cut
-begun None byte bytes after = ended (Some bad_character_code)
+begun None byte bytes after = no_pieces (Some bad_character_code)
 begun (Some kind) byte bytes after = let run = byte ∷ run_of kind bytes in with_piece (is_piece kind run) kind run (after kind)
 
 -- a text of no more than so many bytes, cut: each piece takes a byte at least, so the count is never used up first
 unfoldable pub cut_within : ℕ → List ℕ → Cut
-cut_within zero bytes = ended None
-cut_within (suc count) [] = ended None
+cut_within zero bytes = no_pieces None
+cut_within (suc count) [] = no_pieces None
 cut_within (suc count) (byte ∷ bytes) = begun (kind_at byte) byte bytes (λ kind. cut_within count (rest_of kind bytes))
 
 -- a text, cut
@@ -115,8 +115,8 @@ abbrev pub no_more : TextEnd → Stream
 no_more end = ([], end)
 
 -- no token, and a fault of that code at the next byte
-abbrev pub fault_at : Cursor → ℕ → Stream
-fault_at cursor code = no_more (Faulty (record { code = code; place = cursor.place }))
+abbrev pub faulty_here : Cursor → ℕ → Stream
+faulty_here cursor code = no_more (Faulty (record { code = code; place = cursor.place }))
 
 -- with a token in front, where the piece is one
 abbrev pub with_lexeme : PieceKind → List ℕ → Cursor → Stream → Stream

@@ -94,28 +94,35 @@ pub record StopsBefore (A : Type 0) (S : A → List Lexeme → Type 0) (left : L
 abbrev pub HasOneValue : (A : Type 0) → (A → List Lexeme → Type 0) → Type 0
 HasOneValue A S = (a b : A) (tokens : List Lexeme) → S a tokens → S b tokens → a ≡ b
 
--- what tokens and their end have in them: a value that is taken, a fault at a place, a level too deep, or a text that stops inside
-pub data Answer (A : Type 0) (S M : A → List Lexeme → Type 0) (ends : Lexeme → Bool) (left : List Lexeme) (end : TextEnd) : Type 0 where
-  taken : (x : A) (rest : List Lexeme) → Takes A S ends left end x rest → Answer A S M ends left end
-  fault_at : (place : Place) → FirstFault A S M ends left end place → Answer A S M ends left end
-  too_deep_at : (place : Place) → FirstTooDeep A S M ends left place → Answer A S M ends left end
-  inside : (fault : LexFault) → StopsInside A S left end fault → Answer A S M ends left end
+-- What tokens and their end have in them: a value with the tokens behind it, a place where no spelling goes on, a level too
+-- deep, or a place where the text goes on with no token.
+pub data Finding (A : Type 0) : Type 0 where
+  taken : A → List Lexeme → Finding A
+  no_spelling : Place → Finding A
+  level_too_deep : Place → Finding A
+  no_token : LexFault → Finding A
+
+-- They have this in them. S is the language within the depths, M the one that leaves them aside.
+abbrev pub Finds : (A : Type 0) (S M : A → List Lexeme → Type 0) → (Lexeme → Bool) → List Lexeme → TextEnd → Finding A → Type 0
+Finds A S M ends left end (taken x rest) = Takes A S ends left end x rest
+Finds A S M ends left end (no_spelling place) = FirstFault A S M ends left end place
+Finds A S M ends left end (level_too_deep place) = FirstTooDeep A S M ends left place
+Finds A S M ends left end (no_token fault) = StopsInside A S left end fault
 
 -- Any tokens and their end have exactly one of these in them.
-pub record HasOneAnswer (A : Type 0) (S M : A → List Lexeme → Type 0) (ends : Lexeme → Bool) : Type 0 where
-  pub some : (left : List Lexeme) (end : TextEnd) → Answer A S M ends left end
-  pub one_taken : (left : List Lexeme) (end : TextEnd) (a b : A) (rest more : List Lexeme) → Takes A S ends left end a rest → Takes A S ends left end b more → (a ≡ b) × (rest ≡ more)
-  pub one_fault : (left : List Lexeme) (end : TextEnd) (p q : Place) → FirstFault A S M ends left end p → FirstFault A S M ends left end q → p ≡ q
-  pub one_too_deep : (left : List Lexeme) (p q : Place) → FirstTooDeep A S M ends left p → FirstTooDeep A S M ends left q → p ≡ q
-  pub taken_has_no_fault : (left : List Lexeme) (end : TextEnd) (x : A) (rest : List Lexeme) (p : Place) → Takes A S ends left end x rest → ¬ FirstFault A S M ends left end p
-  pub taken_not_too_deep : (left : List Lexeme) (end : TextEnd) (x : A) (rest : List Lexeme) (p : Place) → Takes A S ends left end x rest → ¬ FirstTooDeep A S M ends left p
-  pub taken_not_inside : (left : List Lexeme) (end : TextEnd) (x : A) (rest : List Lexeme) (fault : LexFault) → Takes A S ends left end x rest → ¬ StopsInside A S left end fault
-  pub fault_not_too_deep : (left : List Lexeme) (end : TextEnd) (p q : Place) → FirstFault A S M ends left end p → ¬ FirstTooDeep A S M ends left q
-  pub inside_has_no_fault : (left : List Lexeme) (end : TextEnd) (p : Place) (fault : LexFault) → StopsInside A S left end fault → ¬ FirstFault A S M ends left end p
-  pub inside_not_too_deep : (left : List Lexeme) (end : TextEnd) (p : Place) (fault : LexFault) → StopsInside A S left end fault → ¬ FirstTooDeep A S M ends left p
+pub record HasOneFinding (A : Type 0) (There : List Lexeme → TextEnd → Finding A → Type 0) : Type 0 where
+  pub some : (left : List Lexeme) (end : TextEnd) → (found : Finding A) × There left end found
+  pub one : (left : List Lexeme) (end : TextEnd) (a b : Finding A) → There left end a → There left end b → a ≡ b
 
 -- where the tokens go on: the place of the next token or of the end of the text, or the fault
-abbrev pub place_of : List Lexeme → TextEnd → Result Place LexFault
-place_of [] (Finished place) = Ok place
-place_of [] (Faulty fault) = Err fault
-place_of (t ∷ ts) end = Ok t.place
+abbrev pub next_place : List Lexeme → TextEnd → Result Place LexFault
+next_place [] (Finished place) = Ok place
+next_place [] (Faulty fault) = Err fault
+next_place (t ∷ ts) end = Ok t.place
+
+-- the tokens that are left by what was found: those behind the value, or those from the fault on
+abbrev pub Leaves : {A : Type 0} → Finding A → List Lexeme → TextEnd → Type 0
+Leaves (taken x rest) left end = left ≡ rest
+Leaves (no_spelling place) left end = next_place left end ≡ Ok place
+Leaves (level_too_deep place) left end = next_place left end ≡ Ok place
+Leaves (no_token fault) left end = next_place left end ≡ Err fault

@@ -202,7 +202,7 @@ fn end<'a>(front: &mut Front<'a>, end: TextEnd)
 /// A fault at the next byte.
 fn fault<'a>(front: &mut Front<'a>, code: u8)
     requires { IsWithin front.old.cursor (length front.old.rest.now) }
-    ensures tokens { spec.tokens_of front.new ≡ spec.fault_at front.old.cursor code }
+    ensures tokens { spec.tokens_of front.new ≡ spec.faulty_here front.old.cursor code }
     ensures within { IsWithin front.new.cursor (length front.new.rest.now) }
     ensures characters { AreItsCharacters front.new.ahead front.new.characters.now }
 {

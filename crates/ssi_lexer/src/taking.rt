@@ -4,7 +4,7 @@ ghost use Rattle.std.specs.Prelude.{◌≡◌, ◌<◌, ◌≤◌, true, false, 
 ghost use Rattle.std.specs.Bool.{OnTrue};
 ghost use Rattle.ssi_lexer.specs.Readings.{after_next, GoesOn, IsShort, taken_of};
 ghost use Rattle.ssi_lexer.specs.TokenTests.{begins_with as begins_with_one, number, of_kind, sees, test_of};
-ghost use Rattle.ssi_lexer.specs.Parsers.{value_of_digits};
+ghost use Rattle.ssi_lexer.specs.Lexemes.{value_of_digits};
 ghost use Rattle.ssi_lexer.specs.Scan.{lexeme_of};
 
 use crate::token::{Token, TokenKind};

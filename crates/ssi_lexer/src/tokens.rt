@@ -5,7 +5,7 @@ ghost use Rattle.ssi_lexer.specs.declared.token.TextEnd.{TextEnd as End};
 ghost use Rattle.ssi_lexer.specs.Limits.{text_limit};
 ghost use Rattle.ssi_lexer.specs.Lexemes.{Lexeme, AreTokens, IsLexeme, StandsIn};
 ghost use Rattle.ssi_lexer.specs.Readings.{first_of, first_text as text_of_first, answer_at, after_next, end_if, IsShort};
-ghost use Rattle.ssi_lexer.specs.Spelling.{place_of};
+ghost use Rattle.ssi_lexer.specs.Spelling.{next_place};
 
 use crate::scan::{Ahead, Cursor, Front, cut_front, front_of};
 use crate::token::{LexFault, TextEnd, Token};
@@ -129,7 +129,7 @@ impl<'a> Tokens<'a> {
     /// The place of the next token, or of the end of the text where none is left; the fault where the text
     /// goes on with one.
     pub fn place(&self) -> Result<Place, LexFault>
-        ensures { result ≡ place_of self.now.left self.now.end }
+        ensures { result ≡ next_place self.now.left self.now.end }
     {
         match self.front.ahead {
             Ahead::Next(token) => Ok(token.place),

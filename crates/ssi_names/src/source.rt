@@ -1,16 +1,13 @@
 //! The whole source: the files of identities, the requests, and the files behind them.
 
-ghost use Rattle.std.specs.Prelude.{◌≡◌, List, IfOk, MatchResult};
-ghost use Rattle.ssi_base.specs.declared.place.Place.{Place};
-ghost use Rattle.ssi_lexer.specs.declared.token.LexFault.{LexFault};
-ghost use Rattle.ssi_lexer.specs.Lexemes.{Lexeme};
 ghost use Rattle.ssi_lexer.specs.Parsers.{Reads};
 ghost use Rattle.ssi_lexer.specs.Readings.{GoesOn};
-ghost use Rattle.ssi_lexer.specs.Spelling.{AtAnyDepth, FirstFault, FirstTooDeep, HasOneAnswer, HasOneValue, StopsInside, Takes};
+ghost use Rattle.ssi_lexer.specs.Spelling.{AtAnyDepth, HasOneFinding, HasOneValue};
 ghost use Rattle.ssi_names.specs.ReadSource as spec;
 ghost use Rattle.ssi_names.specs.SourceTexts.{SourceText};
 ghost use Rattle.ssi_names.specs.Sources.{SpellsSource};
 ghost use Rattle.ssi_terms.specs.Grammar.{deepest};
+ghost use Rattle.ssi_terms.specs.Readers.{FindsWithin, IsTold, Tells};
 ghost use Rattle.ssi_terms.specs.Tests.{ends_file};
 
 use ssi_fop::statements;
@@ -84,29 +81,11 @@ fn source_files(alloc: Global, tokens: &mut Tokens<'_>) -> Result<SourceTree, St
 
 /// Reads the twelve files of a source, up to the next `file` or the end of the text.
 ///
-/// Of a lexical fault, a syntax fault and a level too deep the one that stands first is answered. After an error the tokens stand
-/// where they stood, or further on.
+/// Of a lexical fault, a syntax fault and a level too deep the one that stands first is answered, and the tokens stand
+/// before it. Where memory runs out they stand where they stood, or further on.
 pub fn read_source(alloc: Global, tokens: &mut Tokens<'_>) -> Result<SourceTree, ReadFault>
-    // Exactly the tokens were taken that spell the tree within the depths, and `file` or the end of the text follows.
-    ensures found { IfOk result (λ tree. Takes SourceText (SpellsSource deepest) ends_file tokens.old.left tokens.old.end tree tokens.new.left) }
-
-    // A source is read, unless memory runs out.
-    ensures only { (tree : SourceText) (rest : List Lexeme)
-        → Takes SourceText (SpellsSource deepest) ends_file tokens.old.left tokens.old.end tree rest
-        → MatchResult result (λ found. (found ≡ tree) × (tokens.new.left ≡ rest)) (λ fault. fault ≡ ReadFault.Memory) }
-
-    // A syntax fault stands at the first place where no spelling begins with the tokens so far, depths left aside.
-    ensures syntax { (place : Place) → result ≡ Err (ReadFault.Syntax place)
-        → FirstFault SourceText (SpellsSource deepest) (AtAnyDepth SourceText SpellsSource) ends_file tokens.old.left tokens.old.end place }
-
-    // The group or the choice that opens a ninth level is the first token with which none goes on within the depths.
-    ensures too_deep { (place : Place) → result ≡ Err (ReadFault.TooDeep place)
-        → FirstTooDeep SourceText (SpellsSource deepest) (AtAnyDepth SourceText SpellsSource) ends_file tokens.old.left place }
-
-    // Before a lexical fault the tokens begin a spelling, and more of them are needed.
-    ensures lexical { (fault : LexFault) → result ≡ Err (ReadFault.Lex fault)
-        → StopsInside SourceText (SpellsSource deepest) tokens.old.left tokens.old.end fault }
-    ensures goes_on { GoesOn tokens.old tokens.new }
+    // The tree and exactly its tokens, within the depths and with `file` or the end of the text behind it, or the first fault.
+    ensures { Tells SourceText (FindsWithin SourceText SpellsSource ends_file) tokens.old tokens.new result }
 {
     let read = source_files(alloc, tokens);
     file_ended(tokens, read)
@@ -117,6 +96,9 @@ pub fn one_source_tree()
     // Tokens that spell two sources spell one, depths left aside.
     ensures tree { HasOneValue SourceText (AtAnyDepth SourceText SpellsSource) }
 
-    // Exactly one of what `found`, `syntax`, `too_deep` and `lexical` of `read_source` say is true.
-    ensures answer { HasOneAnswer SourceText (SpellsSource deepest) (AtAnyDepth SourceText SpellsSource) ends_file }
+    // Exactly one thing is there: a source, a syntax fault, a level too deep, or a text that stops inside.
+    ensures finding { HasOneFinding SourceText (FindsWithin SourceText SpellsSource ends_file) }
+
+    // It is what `read_source` tells, unless memory runs out: so a source that is there is read.
+    ensures told { IsTold SourceText (FindsWithin SourceText SpellsSource ends_file) }
 {}

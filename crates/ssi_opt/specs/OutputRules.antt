@@ -11,7 +11,7 @@ use Rattle.ssi_lexer.specs.Laws.{StartsWith, Lacks, Always, Good}
 use Rattle.ssi_lexer.proofs.Joining.{Both, both, good_both, good_mapped}
 use Rattle.ssi_lexer.proofs.Choosing.{Without}
 use Rattle.ssi_lexer.proofs.Listing.{good_separated_by}
-use Rattle.ssi_lexer.proofs.Sequences.{joined}
+use Rattle.ssi_lexer.proofs.Sequences.{good_then}
 use Rattle.ssi_lexer.proofs.Starting.{some_token, some_word, word_not_comma, dot_not_comma, dot_not_word, good_dot}
 use Rattle.ssi_terms.specs.declared.tree.Spot.{Spot}
 use Rattle.ssi_terms.specs.declared.tree.CondTree.{CondTree}
@@ -67,7 +67,7 @@ module _ (depth : ℕ) where
   unfolding spec.output_bit
   good_bit =
       good_mapped (Spot × (Token × CondTree)) (Spot × CondTree) bit_of (spot any_number & (tok is_if & cond depth)) BitForm (SpellsBit depth) (Lacks comma) ListEnds to_bit from_bit
-      (joined good_number (joined (good_word (codes "if")) (good_cond depth)))
+      (good_then good_number (good_then (good_word (codes "if")) (good_cond depth)))
 
   -- ---- an entry
 
@@ -109,7 +109,7 @@ module _ (depth : ℕ) where
   unfolding spec.output_entry
   good_output =
       good_mapped OutputParts OutputText output_of (spot any_number & (tok is_bit & (separated_by is_bit (spec.output_bit depth) & tok dot))) OutputForm (SpellsOutput depth) Always Always to_output from_output
-      (joined good_number (joined (good_word (codes "bit")) good_from_bits))
+      (good_then good_number (good_then (good_word (codes "bit")) good_from_bits))
 
   pub output_starts : (x : OutputText) (u : List Lexeme) → SpellsOutput depth x u → StartsWith any_number u
   output_starts x u (an_output n m d bits v e h l j) = record { first = n; others = m ∷ (v ++ (d ∷ [])); parts = refl; passes = e }

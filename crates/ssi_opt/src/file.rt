@@ -1,16 +1,13 @@
 //! Reads OPT.
 
-ghost use Rattle.std.specs.Prelude.{◌≡◌, List, IfOk, MatchResult};
-ghost use Rattle.ssi_base.specs.declared.place.Place.{Place as Where};
-ghost use Rattle.ssi_lexer.specs.declared.token.LexFault.{LexFault};
-ghost use Rattle.ssi_lexer.specs.Lexemes.{Lexeme};
 ghost use Rattle.ssi_lexer.specs.Parsers.{Reads, ReadsAll, separated_by};
 ghost use Rattle.ssi_lexer.specs.Readings.{GoesOn};
-ghost use Rattle.ssi_lexer.specs.Spelling.{AtAnyDepth, FirstFault, FirstTooDeep, HasOneAnswer, HasOneValue, StopsInside, Takes};
+ghost use Rattle.ssi_lexer.specs.Spelling.{AtAnyDepth, HasOneFinding, HasOneValue};
 ghost use Rattle.ssi_opt.specs.Outputs.{OutputsText, SpellsOutputs};
 ghost use Rattle.ssi_opt.specs.OutputRules.{is_bit};
 ghost use Rattle.ssi_opt.specs.ReadOutputs as spec;
 ghost use Rattle.ssi_terms.specs.Grammar.{deepest};
+ghost use Rattle.ssi_terms.specs.Readers.{FindsWithin, IsTold, Tells};
 ghost use Rattle.ssi_terms.specs.Tests.{ends_file};
 
 use ssi_lexer::{Entry, Part, Stop, TokenKind, Tokens, Wanted};
@@ -137,29 +134,11 @@ pub fn outputs(alloc: Global, tokens: &mut Tokens<'_>) -> Result<FileTree, Stop>
 
 /// Reads OPT, up to the next `file` or the end of the text.
 ///
-/// Of a lexical fault, a syntax fault and a level too deep the one that stands first is answered. After an error the
-/// tokens stand where they stood, or further on.
+/// Of a lexical fault, a syntax fault and a level too deep the one that stands first is answered, and the tokens stand
+/// before it. Where memory runs out they stand where they stood, or further on.
 pub fn read_file(alloc: Global, tokens: &mut Tokens<'_>) -> Result<FileTree, ReadFault>
-    // Exactly the tokens were taken that spell the tree within the depths, and `file` or the end of the text follows.
-    ensures found { IfOk result (λ tree. Takes OutputsText (SpellsOutputs deepest) ends_file tokens.old.left tokens.old.end tree tokens.new.left) }
-
-    // Such a file is read, unless memory runs out.
-    ensures only { (tree : OutputsText) (rest : List Lexeme)
-        → Takes OutputsText (SpellsOutputs deepest) ends_file tokens.old.left tokens.old.end tree rest
-        → MatchResult result (λ found. (found ≡ tree) × (tokens.new.left ≡ rest)) (λ fault. fault ≡ ReadFault.Memory) }
-
-    // A syntax fault stands at the first place where no spelling begins with the tokens so far, depths left aside.
-    ensures syntax { (place : Where) → result ≡ Err (ReadFault.Syntax place)
-        → FirstFault OutputsText (SpellsOutputs deepest) (AtAnyDepth OutputsText SpellsOutputs) ends_file tokens.old.left tokens.old.end place }
-
-    // The group that opens a ninth level is the first token with which none goes on within the depths.
-    ensures too_deep { (place : Where) → result ≡ Err (ReadFault.TooDeep place)
-        → FirstTooDeep OutputsText (SpellsOutputs deepest) (AtAnyDepth OutputsText SpellsOutputs) ends_file tokens.old.left place }
-
-    // Before a lexical fault the tokens begin a spelling, and more of them are needed.
-    ensures lexical { (fault : LexFault) → result ≡ Err (ReadFault.Lex fault)
-        → StopsInside OutputsText (SpellsOutputs deepest) tokens.old.left tokens.old.end fault }
-    ensures goes_on { GoesOn tokens.old tokens.new }
+    // The tree and exactly its tokens, within the depths and with `file` or the end of the text behind it, or the first fault.
+    ensures { Tells OutputsText (FindsWithin OutputsText SpellsOutputs ends_file) tokens.old tokens.new result }
 {
     let read = outputs(alloc, tokens);
     file_ended(tokens, read)
@@ -170,6 +149,9 @@ pub fn one_file_tree()
     // Tokens that spell two files spell one, depths left aside.
     ensures tree { HasOneValue OutputsText (AtAnyDepth OutputsText SpellsOutputs) }
 
-    // Exactly one of what `found`, `syntax`, `too_deep` and `lexical` of `read_file` say is true.
-    ensures answer { HasOneAnswer OutputsText (SpellsOutputs deepest) (AtAnyDepth OutputsText SpellsOutputs) ends_file }
+    // Exactly one thing is there: a file, a syntax fault, a level too deep, or a text that stops inside.
+    ensures finding { HasOneFinding OutputsText (FindsWithin OutputsText SpellsOutputs ends_file) }
+
+    // It is what `read_file` tells, unless memory runs out: so a file that is there is read.
+    ensures told { IsTold OutputsText (FindsWithin OutputsText SpellsOutputs ends_file) }
 {}

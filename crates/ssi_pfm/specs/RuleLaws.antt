@@ -9,7 +9,7 @@ use Rattle.ssi_lexer.specs.Languages.{One, one}
 use Rattle.ssi_lexer.specs.Parsers.{◌&◌, tok}
 use Rattle.ssi_lexer.specs.Laws.{StartsWith, Always, Good}
 use Rattle.ssi_lexer.proofs.Joining.{Both, both, good_mapped}
-use Rattle.ssi_lexer.proofs.Sequences.{joined, joined_by}
+use Rattle.ssi_lexer.proofs.Sequences.{good_then, joined_by}
 use Rattle.ssi_lexer.proofs.Starting.{some_token, dot_not_comma, starts_one, good_dot}
 use Rattle.ssi_terms.specs.declared.tree.Spot.{Spot}
 use Rattle.ssi_terms.specs.declared.tree.CondTree.{CondTree}
@@ -52,8 +52,8 @@ module _ (depth : ℕ) where
   unfolding spec.rule_entry
   good_rule =
       good_mapped RuleParts (Spot × Spot × CondTree) rule_of (spot points & (spot lie_word & (tok (word (codes "if")) & (cond depth & tok dot)))) RuleText (SpellsRule depth) Always Always to_rule from_rule
-      (joined (good_spot points (some_token k.Name (codes "P1")) refl)
-      (joined (good_spot lie_word (some_token k.Word (codes "cn")) refl) (joined (good_word (codes "if")) (joined_by comma dot (starts_one dot) dot_not_comma (good_cond depth) good_dot))))
+      (good_then (good_spot points (some_token k.Name (codes "P1")) refl)
+      (good_then (good_spot lie_word (some_token k.Word (codes "cn")) refl) (good_then (good_word (codes "if")) (joined_by comma dot (starts_one dot) dot_not_comma (good_cond depth) good_dot))))
 
   pub rule_starts : (x : Spot × Spot × CondTree) (u : List Lexeme) → SpellsRule depth x u → StartsWith points u
   rule_starts x u (a_rule n l i d cond v e g h s j) = record { first = n; others = l ∷ i ∷ (v ++ (d ∷ [])); parts = refl; passes = e }

@@ -1,15 +1,12 @@
 //! Reads PFM.
 
-ghost use Rattle.std.specs.Prelude.{◌≡◌, List, IfOk, MatchResult};
-ghost use Rattle.ssi_base.specs.declared.place.Place.{Place as Where};
-ghost use Rattle.ssi_lexer.specs.declared.token.LexFault.{LexFault};
-ghost use Rattle.ssi_lexer.specs.Lexemes.{Lexeme};
 ghost use Rattle.ssi_lexer.specs.Parsers.{Reads};
 ghost use Rattle.ssi_lexer.specs.Readings.{GoesOn};
-ghost use Rattle.ssi_lexer.specs.Spelling.{AtAnyDepth, FirstFault, FirstTooDeep, HasOneAnswer, HasOneValue, StopsInside, Takes};
+ghost use Rattle.ssi_lexer.specs.Spelling.{AtAnyDepth, HasOneFinding, HasOneValue};
 ghost use Rattle.ssi_pfm.specs.Rules.{RulesText, SpellsRules};
 ghost use Rattle.ssi_pfm.specs.ReadRules as spec;
 ghost use Rattle.ssi_terms.specs.Grammar.{deepest};
+ghost use Rattle.ssi_terms.specs.Readers.{FindsWithin, IsTold, Tells};
 ghost use Rattle.ssi_terms.specs.Tests.{ends_file};
 
 use ssi_lexer::{Entry, Part, Stop, Tokens, Wanted};
@@ -93,29 +90,11 @@ pub fn rules(alloc: Global, tokens: &mut Tokens<'_>) -> Result<FileTree, Stop>
 
 /// Reads PFM, up to the next `file` or the end of the text.
 ///
-/// Of a lexical fault, a syntax fault and a level too deep the one that stands first is answered. After an error the
-/// tokens stand where they stood, or further on.
+/// Of a lexical fault, a syntax fault and a level too deep the one that stands first is answered, and the tokens stand
+/// before it. Where memory runs out they stand where they stood, or further on.
 pub fn read_file(alloc: Global, tokens: &mut Tokens<'_>) -> Result<FileTree, ReadFault>
-    // Exactly the tokens were taken that spell the tree within the depths, and `file` or the end of the text follows.
-    ensures found { IfOk result (λ tree. Takes RulesText (SpellsRules deepest) ends_file tokens.old.left tokens.old.end tree tokens.new.left) }
-
-    // Such a file is read, unless memory runs out.
-    ensures only { (tree : RulesText) (rest : List Lexeme)
-        → Takes RulesText (SpellsRules deepest) ends_file tokens.old.left tokens.old.end tree rest
-        → MatchResult result (λ found. (found ≡ tree) × (tokens.new.left ≡ rest)) (λ fault. fault ≡ ReadFault.Memory) }
-
-    // A syntax fault stands at the first place where no spelling begins with the tokens so far, depths left aside.
-    ensures syntax { (place : Where) → result ≡ Err (ReadFault.Syntax place)
-        → FirstFault RulesText (SpellsRules deepest) (AtAnyDepth RulesText SpellsRules) ends_file tokens.old.left tokens.old.end place }
-
-    // The group that opens a ninth level is the first token with which none goes on within the depths.
-    ensures too_deep { (place : Where) → result ≡ Err (ReadFault.TooDeep place)
-        → FirstTooDeep RulesText (SpellsRules deepest) (AtAnyDepth RulesText SpellsRules) ends_file tokens.old.left place }
-
-    // Before a lexical fault the tokens begin a spelling, and more of them are needed.
-    ensures lexical { (fault : LexFault) → result ≡ Err (ReadFault.Lex fault)
-        → StopsInside RulesText (SpellsRules deepest) tokens.old.left tokens.old.end fault }
-    ensures goes_on { GoesOn tokens.old tokens.new }
+    // The tree and exactly its tokens, within the depths and with `file` or the end of the text behind it, or the first fault.
+    ensures { Tells RulesText (FindsWithin RulesText SpellsRules ends_file) tokens.old tokens.new result }
 {
     let read = rules(alloc, tokens);
     file_ended(tokens, read)
@@ -126,6 +105,9 @@ pub fn one_file_tree()
     // Tokens that spell two files spell one, depths left aside.
     ensures tree { HasOneValue RulesText (AtAnyDepth RulesText SpellsRules) }
 
-    // Exactly one of what `found`, `syntax`, `too_deep` and `lexical` of `read_file` say is true.
-    ensures answer { HasOneAnswer RulesText (SpellsRules deepest) (AtAnyDepth RulesText SpellsRules) ends_file }
+    // Exactly one thing is there: a file, a syntax fault, a level too deep, or a text that stops inside.
+    ensures finding { HasOneFinding RulesText (FindsWithin RulesText SpellsRules ends_file) }
+
+    // It is what `read_file` tells, unless memory runs out: so a file that is there is read.
+    ensures told { IsTold RulesText (FindsWithin RulesText SpellsRules ends_file) }
 {}

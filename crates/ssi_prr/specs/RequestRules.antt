@@ -9,7 +9,7 @@ use Rattle.ssi_lexer.specs.Languages.{One, one}
 use Rattle.ssi_lexer.specs.Parsers.{◌&◌, tok}
 use Rattle.ssi_lexer.specs.Laws.{StartsWith, Always, Good, Deepens, Deep}
 use Rattle.ssi_lexer.proofs.Joining.{Both, both, good_mapped}
-use Rattle.ssi_lexer.proofs.Sequences.{joined, joined_by}
+use Rattle.ssi_lexer.proofs.Sequences.{good_then, joined_by}
 use Rattle.ssi_lexer.proofs.Deepening.{deep_mapped, deep_both, deep_tok}
 use Rattle.ssi_lexer.proofs.Starting.{some_token, dot_not_comma, starts_one, good_dot}
 use Rattle.ssi_terms.specs.declared.tree.Spot.{Spot}
@@ -40,7 +40,7 @@ module _ (depth : ℕ) where
   unfolding spec.request_entry
   good_request =
       good_mapped (Spot × (BodyTree × Token)) (Spot × BodyTree) request_of (spot request & (body depth depth & tok dot)) RequestText (SpellsRequest depth) Always Always to_request from_request
-      (joined (good_spot request (some_token k.Name (codes "Q1")) refl) (joined_by comma dot (starts_one dot) dot_not_comma (good_body depth depth) good_dot))
+      (good_then (good_spot request (some_token k.Name (codes "Q1")) refl) (joined_by comma dot (starts_one dot) dot_not_comma (good_body depth depth) good_dot))
 
   pub request_starts : (x : Spot × BodyTree) (u : List Lexeme) → SpellsRequest depth x u → StartsWith request u
   request_starts x u (a_request n d body v e s h) = record { first = n; others = v ++ (d ∷ []); parts = refl; passes = e }

@@ -1,8 +1,10 @@
 //! The file PRR: panel requests, each with what it does when it is taken.
 //!
-//! The layer above may rely on [`read_file`]: it answers the tree of the file that the tokens spell, or the
-//! first fault of the text, lexical, of syntax or of depth, at its exact place. A reader of a whole source goes
-//! on with what follows: [`requests`]. It stands on `ssi_terms` for names and bodies.
+//! The layer above makes its reader of the whole source of [`requests`], which reads this file whatever follows.
+//! [`read_file`] reads it alone: it answers the tree of the file that the tokens spell, or the first fault of
+//! the text, lexical, of syntax or of depth, at its exact place.
+//!
+//! It stands on `ssi_terms` for names and bodies.
 #![tactic(auto)]
 
 mod file;

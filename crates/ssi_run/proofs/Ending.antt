@@ -7,6 +7,8 @@ use Rattle.ssi_base.specs.declared.outside.Failed.{Failed}
 use Rattle.ssi_base.specs.Faults.{Faults}
 use Rattle.ssi_base.specs.Streams.{GivesPast, ReadsToEnd, Writes}
 use Rattle.ssi_base.proofs.Reading.{whole_input, long_input}
+use Rattle.ssi_lexer.specs.Spelling.{Finding, level_too_deep, no_spelling, no_token, taken}
+use Rattle.ssi_names.specs.SourceTexts.{SourceText}
 use Rattle.ssi_trackside.specs.Module.{ModuleState}
 use Rattle.ssi_script.specs.declared.step.ScriptFault.{ScriptFault}
 use Rattle.ssi_script.specs.declared.step.ScriptStep.{ScriptStep}
@@ -17,7 +19,7 @@ use Rattle.ssi_run.specs.declared.status.Failure.TheVariants.{Source, Sink, Memo
 use Rattle.ssi_run.specs.declared.status.Failure.{Failure}
 use Rattle.ssi_run.specs.declared.words.Command.{Command}
 use Rattle.ssi_run.specs.declared.words.Command.TheVariants.{Run}
-use Rattle.ssi_run.specs.Answers.{Answer, Answers, DataPart, Reading, RunsText, ToEnd, TooMuch, Unread, alone, a_plan, a_tree, name_faults, no_spelling, no_token, script_answer, too_deep, too_large, within}
+use Rattle.ssi_run.specs.Answers.{Answer, OfFinding, Reading, RunsText, ToEnd, TooMuch, Unread, alone, a_plan, name_faults, script_answer, too_large, within}
 use Rattle.ssi_run.specs.Endings.{Ends, HasRead, IsAnswerTo, ReadWithin, Seen, SourceFailed, part, starved, unread, whole}
 use Rattle.ssi_run.specs.Outcomes.{Gives, GivesNothing, Replies, told_of}
 use Rattle.ssi_run.specs.Statuses.{failure_number, input_limit, number_after, number_of, too_large_line, usage_line}
@@ -35,15 +37,15 @@ module _ (input : List ℕ) (shelf : List ModuleState) where
   tree_reads x (name_faults some) = refl
   tree_reads x (a_plan y none p) = script_reads input p.steps p.fault _ y p.answer_is
 
-  part_reads : {lexemes : _} {end : _} (x : Answer) → DataPart shelf (Tree input shelf) lexemes end x → x.reading ≡ ToEnd
-  part_reads x (no_token fault inside) = refl
-  part_reads x (no_spelling place fault) = refl
-  part_reads x (too_deep place fault) = refl
-  part_reads x (a_tree tree behind y takes t) = tree_reads y t
+  found_reads : {end : _} (found : Finding SourceText) (x : Answer) → OfFinding shelf (Tree input shelf) end found x → x.reading ≡ ToEnd
+  found_reads (taken tree behind) x t = tree_reads x t
+  found_reads (no_spelling place) x e = ap (λ (y : Answer). y.reading) e
+  found_reads (level_too_deep place) x e = ap (λ (y : Answer). y.reading) e
+  found_reads (no_token fault) x e = ap (λ (y : Answer). y.reading) e
 
   -- a text within the limit is read to its end
   pub text_reads : (x : Answer) → RunsText input shelf x → x.reading ≡ ToEnd
-  text_reads x answers = part_reads x answers.answered
+  text_reads x answers = found_reads answers.answered.found x answers.answered.answered
 
 -- ---- inputs
 

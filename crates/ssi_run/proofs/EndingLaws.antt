@@ -5,6 +5,8 @@ use Rattle.std.specs.Io.KnownBytes.{IsAtEnd}
 use Rattle.std.proofs.KnownBytes.{Consumes-nil}
 use Rattle.ssi_base.specs.declared.outside.Failed.{Failed}
 use Rattle.ssi_base.specs.Streams.{GivesPast}
+use Rattle.ssi_lexer.specs.Spelling.{Finding, level_too_deep, no_spelling, no_token, taken}
+use Rattle.ssi_names.specs.SourceTexts.{SourceText}
 use Rattle.ssi_trackside.specs.Module.{ModuleState}
 use Rattle.ssi_script.specs.declared.step.ScriptFault.{ScriptFault}
 use Rattle.ssi_script.specs.declared.step.ScriptStep.{ScriptStep}
@@ -15,9 +17,10 @@ use Rattle.ssi_run.specs.declared.status.Failure.{Failure}
 use Rattle.ssi_run.specs.declared.status.Failure.TheVariants.{Source, Sink, Memory}
 use Rattle.ssi_run.specs.declared.words.Command.{Command}
 use Rattle.ssi_run.specs.declared.words.Command.TheVariants.{Run}
-use Rattle.ssi_run.specs.Answers.{Answer, Answers, DataPart, Reading, RunsText, ToEnd, TooMuch, Unread, Within, a_plan, a_tree, name_faults, no_spelling, no_token, script_answer, too_deep, too_large, within}
+use Rattle.ssi_run.specs.Answers.{Answer, Answers, OfFinding, Reading, RunsText, ToEnd, TooMuch, Unread, Within, a_plan, faulty, name_faults, script_answer, too_large, within}
 use Rattle.ssi_run.specs.Endings.{Ends, HasRead, IsAnswerTo, LeftModules, ReadWithin, Seen, SinkFailed, SourceFailed, WroteNothing, part, starved, unread, whole}
 use Rattle.ssi_run.specs.EndingLaws.{GivesAnswer, GivesPart, IsAnswered}
+use Rattle.ssi_run.specs.FaultLines.{depth_line, lexical_line, syntax_line}
 use Rattle.ssi_run.specs.Outcomes.{told_of}
 use Rattle.ssi_run.specs.Statuses.{failure_number, input_limit, number_after, number_of}
 use Rattle.ssi_run.proofs.Layers.{Tree}
@@ -97,18 +100,21 @@ module _ (command : Option Command) (shelf : List ModuleState) where
   script_sort input steps None session x e = all_done (ap (λ (y : Answer). y.status) e) (ap (λ (y : Answer). y.reading) e)
   script_sort input steps (Some fault) session x e = bad_script (ap (λ (y : Answer). y.status) e) (ap (λ (y : Answer). y.reading) e)
 
+  fault_sort : (line : List ℕ) (x : Answer) → x ≡ faulty shelf line → Sort command shelf x
+  fault_sort line x e = has_faults (ap (λ (y : Answer). y.status) e) (ap (λ (y : Answer). y.reading) e) (ap (λ (y : Answer). y.left) e)
+
   tree_sort : {input : List ℕ} {tree : _} {behind : _} {end : _} (x : Answer) → Tree input shelf tree behind end x → Sort command shelf x
   tree_sort x (name_faults some) = has_faults refl refl refl
   tree_sort {input = input} x (a_plan y none p) = script_sort input p.steps p.fault _ y p.answer_is
 
-  part_sort : {input : List ℕ} {lexemes : _} {end : _} (x : Answer) → DataPart shelf (Tree input shelf) lexemes end x → Sort command shelf x
-  part_sort x (no_token fault inside) = has_faults refl refl refl
-  part_sort x (no_spelling place fault) = has_faults refl refl refl
-  part_sort x (too_deep place fault) = has_faults refl refl refl
-  part_sort x (a_tree tree behind y takes t) = tree_sort y t
+  found_sort : {input : List ℕ} {end : _} (found : Finding SourceText) (x : Answer) → OfFinding shelf (Tree input shelf) end found x → Sort command shelf x
+  found_sort (taken tree behind) x t = tree_sort x t
+  found_sort (no_spelling place) x e = fault_sort (syntax_line place) x e
+  found_sort (level_too_deep place) x e = fault_sort (depth_line place) x e
+  found_sort (no_token fault) x e = fault_sort (lexical_line fault) x e
 
   run_sort : {input : List ℕ} (x : Answer) → Within input shelf (RunsText input shelf) x → Sort command shelf x
-  run_sort x (within y small answers) = part_sort y answers.answered
+  run_sort x (within y small answers) = found_sort answers.answered.found y answers.answered.answered
   run_sort x (too_large past) = past_limit refl refl refl
 
 sort_of : (command : Option Command) (input : List ℕ) (shelf : List ModuleState) (x : Answer) → Answers command input shelf x → Sort command shelf x

@@ -1,11 +1,14 @@
 -- What a layer answers, by what the one below it answers.
-use Rattle.std.proofs.Common.{◌≡◌, ◌≢◌, ℕ, List, [], subst}
+use Rattle.std.proofs.Common.{◌≡◌, ◌≢◌, ℕ, List, [], Err, subst}
+use Rattle.std.specs.Option.{IfSome}
 use Rattle.ssi_lexer.specs.declared.token.TextEnd.{TextEnd}
 use Rattle.ssi_lexer.specs.Lexemes.{Lexeme, AreTokens}
 use Rattle.ssi_lexer.specs.Readings.{GoesOn, Reading}
-use Rattle.ssi_lexer.specs.Spelling.{Takes}
+use Rattle.ssi_lexer.specs.Spelling.{Finding, Takes, taken}
 use Rattle.ssi_identities.specs.DataSets.{Plan}
 use Rattle.ssi_terms.specs.Grammar.{deepest}
+use Rattle.ssi_terms.specs.declared.read_fault.ReadFault.{ReadFault}
+use Rattle.ssi_terms.specs.Readers.{found_by}
 use Rattle.ssi_terms.specs.Tests.{ends_file}
 use Rattle.ssi_names.specs.declared.fault.Fault.{Fault}
 use Rattle.ssi_names.specs.SourceTexts.{SourceText}
@@ -15,7 +18,7 @@ use Rattle.ssi_names.specs.Faults.{faults_of}
 use Rattle.ssi_names.specs.Rows.{resolved}
 use Rattle.ssi_trackside.specs.Module.{ModuleState}
 use Rattle.ssi_run.specs.FaultLines.{name_fault_lines}
-use Rattle.ssi_run.specs.Answers.{Answer, DataPart, Named, RunsText, Script, a_plan, a_tree, faulty, name_faults}
+use Rattle.ssi_run.specs.Answers.{Answer, Named, RunsText, Script, a_plan, faulty, name_faults}
 
 -- what a tree and what stands behind it are answered
 abbrev pub Tree : List ℕ → List ModuleState → SourceText → List Lexeme → TextEnd → Answer → Type 0
@@ -43,4 +46,8 @@ module _ {input : List ℕ} {old new : Reading} {tree : SourceText} (same : old.
       let here = subst (λ (text : List ℕ). Tree text shelf tree new.left new.end answer) on.text t in
       let there = subst (λ (text : List ℕ). Tree text shelf tree new.left new.end answer) same here in
       let ended = subst (λ (end : TextEnd). Tree input shelf tree new.left end answer) on.end there in
-      record { lexemes = old.left; end = old.end; tokens = tokens; answered = a_tree tree new.left answer takes ended }
+      record { lexemes = old.left; end = old.end; tokens = tokens; answered = record { found = taken tree new.left; there = takes; answered = ended } }
+
+-- what was found is there, where the reader's fault is this one
+pub in_case : (There : Finding SourceText → Type 0) (left : List Lexeme) (found fault : ReadFault) → found ≡ fault → IfSome (found_by {A = SourceText} (Err found) left) There → IfSome (found_by {A = SourceText} (Err fault) left) There
+in_case There left found fault is there = subst (λ (e : ReadFault). IfSome (found_by {A = SourceText} (Err e) left) There) is there

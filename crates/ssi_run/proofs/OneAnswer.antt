@@ -1,12 +1,10 @@
 -- There is one answer to the words and the input.
 use Rattle.std.proofs.Common.{◌≡◌, ℕ, List, Option, Some, None, refl, sym, ap, subst, ◌∙◌, arith}
-use Rattle.ssi_lexer.specs.declared.token.LexFault.{LexFault}
 use Rattle.ssi_lexer.specs.declared.token.TextEnd.{TextEnd}
-use Rattle.ssi_lexer.specs.declared.token.TextEnd.TheVariants.{Faulty}
 use Rattle.ssi_lexer.specs.Lexemes.{Lexeme, AreTokens}
-use Rattle.ssi_lexer.specs.Spelling.{AtAnyDepth, HasOneAnswer as HasOneFinding}
+use Rattle.ssi_lexer.specs.Spelling.{Finding, HasOneFinding, level_too_deep, no_spelling, no_token, taken}
 use Rattle.ssi_identities.specs.DataSets.{Plan}
-use Rattle.ssi_terms.specs.Grammar.{deepest}
+use Rattle.ssi_terms.specs.Readers.{FindsWithin}
 use Rattle.ssi_terms.specs.Tests.{ends_file}
 use Rattle.ssi_names.specs.SourceTexts.{SourceText}
 use Rattle.ssi_names.specs.Sources.{SpellsSource}
@@ -16,8 +14,7 @@ use Rattle.ssi_script.specs.declared.step.ScriptStep.{ScriptStep}
 use Rattle.ssi_script.specs.Scripts.{IsScript}
 use Rattle.ssi_script.specs.Sessions.{session_of}
 use Rattle.ssi_run.specs.declared.words.Command.TheVariants.{Run}
-use Rattle.ssi_run.specs.FaultLines.{lexical_line, syntax_line, depth_line}
-use Rattle.ssi_run.specs.Answers.{Answer, DataPart, HasOneAnswer, HasOneStatus, RunsText, Script, Within, a_plan, a_tree, faulty, name_faults, no_spelling, no_token, script_answer, too_deep, too_large, within}
+use Rattle.ssi_run.specs.Answers.{Answer, DataPart, HasOneAnswer, HasOneStatus, OfFinding, RunsText, Script, Within, a_plan, name_faults, script_answer, too_large, within}
 use Rattle.ssi_run.proofs.Layers.{Tree}
 
 -- tokens are one script of a layout at most
@@ -40,43 +37,26 @@ module _ (scripts : OneScript) (input : List ℕ) (shelf : List ModuleState) (sc
   one_tree tree a b (a_plan x none p) (name_faults some) = absurd (some none)
   one_tree tree a b (a_plan x none p) (a_plan y nothing q) = one_plan _ x y p q
 
-module _ (scripts : OneScript) (findings : HasOneFinding SourceText (SpellsSource deepest) (AtAnyDepth SourceText SpellsSource) ends_file)
+module _ (scripts : OneScript) (findings : HasOneFinding SourceText (FindsWithin SourceText SpellsSource ends_file))
     (cuttings : (text : List ℕ) (start : ℕ) (a b : List Lexeme) (e f : TextEnd) → AreTokens text start a e → AreTokens text start b f → (a ≡ b) × (e ≡ f)) where
   module _ (input : List ℕ) (shelf : List ModuleState) (lexemes : List Lexeme) (end : TextEnd) where
-    same_tree : (tree other : SourceText) (script more : List Lexeme) (a b : Answer) → (tree ≡ other) × (script ≡ more) → Tree input shelf tree script end a → Tree input shelf other more end b → a ≡ b
-    same_tree tree other script more a b same t u =
-        let here = subst (λ (x : SourceText). Tree input shelf x script end a) same.0 t in
-        let there = subst (λ (s : List Lexeme). Tree input shelf other s end a) same.1 here in
-        one_tree scripts input shelf more end other a b there u
+    one_found : (found : Finding SourceText) (a b : Answer) → OfFinding shelf (Tree input shelf) end found a → OfFinding shelf (Tree input shelf) end found b → a ≡ b
+    one_found (taken tree behind) a b s t = one_tree scripts input shelf behind end tree a b s t
+    one_found (no_spelling place) a b s t = s ∙ sym t
+    one_found (level_too_deep place) a b s t = s ∙ sym t
+    one_found (no_token fault) a b s t = s ∙ sym t
 
-    same_fault : (f g : LexFault) → end ≡ Faulty f → end ≡ Faulty g → f ≡ g
-    same_fault f g e h = cc
-
-    one_token : (a b : Answer) → DataPart shelf (Tree input shelf) lexemes end a → DataPart shelf (Tree input shelf) lexemes end b → a ≡ b
-    one_token a b (no_token f i) (no_token g j) = ap (λ fault. faulty shelf (lexical_line fault)) (same_fault f g i.faulty j.faulty)
-    one_token a b (no_token f i) (no_spelling q v) = absurd (findings.inside_has_no_fault lexemes end q f i v)
-    one_token a b (no_token f i) (too_deep q v) = absurd (findings.inside_not_too_deep lexemes end q f i v)
-    one_token a b (no_token f i) (a_tree tree script y takes t) = absurd (findings.taken_not_inside lexemes end tree script f takes i)
-    one_token a b (no_spelling p u) (no_token g j) = absurd (findings.inside_has_no_fault lexemes end p g j u)
-    one_token a b (no_spelling p u) (no_spelling q v) = ap (λ place. faulty shelf (syntax_line place)) (findings.one_fault lexemes end p q u v)
-    one_token a b (no_spelling p u) (too_deep q v) = absurd (findings.fault_not_too_deep lexemes end p q u v)
-    one_token a b (no_spelling p u) (a_tree tree script y takes t) = absurd (findings.taken_has_no_fault lexemes end tree script p takes u)
-    one_token a b (too_deep p u) (no_token g j) = absurd (findings.inside_not_too_deep lexemes end p g j u)
-    one_token a b (too_deep p u) (no_spelling q v) = absurd (findings.fault_not_too_deep lexemes end q p v u)
-    one_token a b (too_deep p u) (too_deep q v) = ap (λ place. faulty shelf (depth_line place)) (findings.one_too_deep lexemes p q u v)
-    one_token a b (too_deep p u) (a_tree tree script y takes t) = absurd (findings.taken_not_too_deep lexemes end tree script p takes u)
-    one_token a b (a_tree tree script x takes t) (no_token g j) = absurd (findings.taken_not_inside lexemes end tree script g takes j)
-    one_token a b (a_tree tree script x takes t) (no_spelling q v) = absurd (findings.taken_has_no_fault lexemes end tree script q takes v)
-    one_token a b (a_tree tree script x takes t) (too_deep q v) = absurd (findings.taken_not_too_deep lexemes end tree script q takes v)
-    one_token a b (a_tree tree script x takes t) (a_tree other more y also u) =
-        same_tree tree other script more x y (findings.one_taken lexemes end tree other script more takes also) t u
+    one_part : (a b : Answer) → DataPart shelf (Tree input shelf) lexemes end a → DataPart shelf (Tree input shelf) lexemes end b → a ≡ b
+    one_part a b s t =
+        let same = findings.one lexemes end s.found t.found s.there t.there in
+        one_found t.found a b (subst (λ (found : Finding SourceText). OfFinding shelf (Tree input shelf) end found a) same s.answered) t.answered
 
   one_input : (input : List ℕ) (shelf : List ModuleState) (a b : Answer) → RunsText input shelf a → RunsText input shelf b → a ≡ b
   one_input input shelf a b s t =
       let same = cuttings input 0 s.lexemes t.lexemes s.end t.end s.tokens t.tokens in
       let here = subst (λ (ls : List Lexeme). DataPart shelf (Tree input shelf) ls s.end a) same.0 s.answered in
       let there = subst (λ (e : TextEnd). DataPart shelf (Tree input shelf) t.lexemes e a) same.1 here in
-      one_token input shelf t.lexemes t.end a b there t.answered
+      one_part input shelf t.lexemes t.end a b there t.answered
 
   one_run : (input : List ℕ) (shelf : List ModuleState) (a b : Answer) → Within input shelf (RunsText input shelf) a → Within input shelf (RunsText input shelf) b → a ≡ b
   one_run input shelf a b (within x small s) (within y fits t) = one_input input shelf x y s t

@@ -4,9 +4,9 @@ use Rattle.std.specs.Prelude.{nat_le, length}
 use Rattle.std.proofs.lemmas.Bool.Decides.{nat_tests}
 use Rattle.ssi_lexer.specs.declared.token.TextEnd.{TextEnd}
 use Rattle.ssi_lexer.specs.Lexemes.{Lexeme, AreTokens}
-use Rattle.ssi_lexer.specs.Spelling.{AtAnyDepth, Answer as Finding, taken, fault_at, too_deep_at, inside, HasOneAnswer as HasOneFinding}
+use Rattle.ssi_lexer.specs.Spelling.{Finding, HasOneFinding, level_too_deep, no_spelling, no_token, taken}
 use Rattle.ssi_identities.specs.DataSets.{Plan}
-use Rattle.ssi_terms.specs.Grammar.{deepest}
+use Rattle.ssi_terms.specs.Readers.{FindsWithin}
 use Rattle.ssi_terms.specs.Tests.{ends_file}
 use Rattle.ssi_names.specs.SourceTexts.{SourceText}
 use Rattle.ssi_names.specs.Sources.{SpellsSource}
@@ -21,7 +21,7 @@ use Rattle.ssi_run.specs.declared.words.Command.TheVariants.{Run}
 use Rattle.ssi_run.specs.FaultLines.{lexical_line, syntax_line, depth_line, name_fault_lines}
 use Rattle.ssi_run.specs.Statuses.{input_limit, usage_line, too_large_line}
 use Rattle.ssi_run.specs.declared.status.Status.TheVariants.{NoShape, PastLimit}
-use Rattle.ssi_run.specs.Answers.{Answer, DataPart, HasAnswer, RunsText, Script, TooMuch, Unread, Within, a_plan, a_tree, alone, faulty, name_faults, no_spelling, no_token, script_answer, too_deep, too_large, within}
+use Rattle.ssi_run.specs.Answers.{Answer, DataPart, HasAnswer, OfFinding, RunsText, Script, TooMuch, Unread, Within, a_plan, alone, faulty, name_faults, script_answer, too_large, within}
 use Rattle.ssi_run.proofs.Layers.{Tree}
 
 within_or_not : (n limit : ℕ) → (n ≤ limit) ⊎ (limit < n)
@@ -52,21 +52,26 @@ module _ (scripts : SomeScript) (input : List ℕ) (shelf : List ModuleState) (t
   tree_answer : (answer : Answer) × Tree input shelf tree behind end answer
   tree_answer = tree_by (empty_or_not (faults_of input tree))
 
-module _ (scripts : SomeScript) (findings : HasOneFinding SourceText (SpellsSource deepest) (AtAnyDepth SourceText SpellsSource) ends_file)
+module _ (scripts : SomeScript) (findings : HasOneFinding SourceText (FindsWithin SourceText SpellsSource ends_file))
     (cuttings : (text : List ℕ) (start : ℕ) → (lexemes : List Lexeme) × (end : TextEnd) × AreTokens text start lexemes end) where
   module _ (input : List ℕ) (shelf : List ModuleState) where
-    token_by : (lexemes : List Lexeme) (end : TextEnd) → Finding SourceText (SpellsSource deepest) (AtAnyDepth SourceText SpellsSource) ends_file lexemes end
-        → (answer : Answer) × DataPart shelf (Tree input shelf) lexemes end answer
-    token_by lexemes end (taken tree behind takes) = let t = tree_answer scripts input shelf tree behind end in (t.0, a_tree tree behind t.0 takes t.1)
-    token_by lexemes end (fault_at place fault) = (faulty shelf (syntax_line place), no_spelling place fault)
-    token_by lexemes end (too_deep_at place fault) = (faulty shelf (depth_line place), too_deep place fault)
-    token_by lexemes end (inside fault stops) = (faulty shelf (lexical_line fault), no_token fault stops)
+    found_answer : (end : TextEnd) (found : Finding SourceText) → (answer : Answer) × OfFinding shelf (Tree input shelf) end found answer
+    found_answer end (taken tree behind) = tree_answer scripts input shelf tree behind end
+    found_answer end (no_spelling place) = (faulty shelf (syntax_line place), refl)
+    found_answer end (level_too_deep place) = (faulty shelf (depth_line place), refl)
+    found_answer end (no_token fault) = (faulty shelf (lexical_line fault), refl)
+
+    part_answer : (lexemes : List Lexeme) (end : TextEnd) → (answer : Answer) × DataPart shelf (Tree input shelf) lexemes end answer
+    part_answer lexemes end =
+        let found = findings.some lexemes end in
+        let a = found_answer end found.0 in
+        (a.0, record { found = found.0; there = found.1; answered = a.1 })
 
     input_answer : (answer : Answer) × RunsText input shelf answer
     input_answer =
         let cut = cuttings input 0 in
-        let t = token_by cut.0 cut.1 (findings.some cut.0 cut.1) in
-        (t.0, record { lexemes = cut.0; end = cut.1; tokens = cut.2; answered = t.1 })
+        let a = part_answer cut.0 cut.1 in
+        (a.0, record { lexemes = cut.0; end = cut.1; tokens = cut.2; answered = a.1 })
 
     run_answer : (length input ≤ input_limit) ⊎ (input_limit < length input) → (answer : Answer) × Within input shelf (RunsText input shelf) answer
     run_answer (inl small) = let a = input_answer in (a.0, within a.0 small a.1)

@@ -1,11 +1,9 @@
 -- What the program answers to its words and its input.
 use Rattle.std.specs.Prelude.{◌≡◌, ◌≢◌, ℕ, ◌<◌, ◌≤◌, List, [], ◌∷◌, ◌++◌, length, Option, Some, None}
-use Rattle.ssi_base.specs.declared.place.Place.{Place}
-use Rattle.ssi_lexer.specs.declared.token.LexFault.{LexFault}
 use Rattle.ssi_lexer.specs.declared.token.TextEnd.{TextEnd}
 use Rattle.ssi_lexer.specs.Lexemes.{Lexeme, AreTokens}
-use Rattle.ssi_lexer.specs.Spelling.{AtAnyDepth, Takes, FirstFault, FirstTooDeep, StopsInside}
-use Rattle.ssi_terms.specs.Grammar.{deepest}
+use Rattle.ssi_lexer.specs.Spelling.{Finding, level_too_deep, no_spelling, no_token, taken}
+use Rattle.ssi_terms.specs.Readers.{FindsWithin}
 use Rattle.ssi_terms.specs.Tests.{ends_file}
 use Rattle.ssi_identities.specs.DataSets.{Plan}
 use Rattle.ssi_names.specs.SourceTexts.{SourceText}
@@ -67,13 +65,18 @@ pub data Named (input : List ℕ) (shelf : List ModuleState) (OfPlan : Plan → 
   name_faults : faults_of input tree ≢ [] → Named input shelf OfPlan tree behind end (faulty shelf (name_fault_lines input (faults_of input tree)))
   a_plan : (answer : Answer) → faults_of input tree ≡ [] → OfPlan (resolved input tree) behind end answer → Named input shelf OfPlan tree behind end answer
 
+-- what is answered to what was found in the tokens of a data part: to a tree as what stands behind it has it, to a fault its line
+abbrev pub OfFinding : List ModuleState → (SourceText → List Lexeme → TextEnd → Answer → Type 0) → TextEnd → Finding SourceText → Answer → Type 0
+OfFinding shelf OfTree end (taken tree behind) answer = OfTree tree behind end answer
+OfFinding shelf OfTree end (no_spelling place) answer = answer ≡ faulty shelf (syntax_line place)
+OfFinding shelf OfTree end (level_too_deep place) answer = answer ≡ faulty shelf (depth_line place)
+OfFinding shelf OfTree end (no_token fault) answer = answer ≡ faulty shelf (lexical_line fault)
+
 -- What is answered to tokens that begin with a data part: its first fault, or what its tree is answered, with the tokens behind it.
-pub data DataPart (shelf : List ModuleState) (OfTree : SourceText → List Lexeme → TextEnd → Answer → Type 0) (lexemes : List Lexeme) (end : TextEnd) : Answer → Type 0 where
-  no_token : (fault : LexFault) → StopsInside SourceText (SpellsSource deepest) lexemes end fault → DataPart shelf OfTree lexemes end (faulty shelf (lexical_line fault))
-  no_spelling : (place : Place) → FirstFault SourceText (SpellsSource deepest) (AtAnyDepth SourceText SpellsSource) ends_file lexemes end place → DataPart shelf OfTree lexemes end (faulty shelf (syntax_line place))
-  too_deep : (place : Place) → FirstTooDeep SourceText (SpellsSource deepest) (AtAnyDepth SourceText SpellsSource) ends_file lexemes place → DataPart shelf OfTree lexemes end (faulty shelf (depth_line place))
-  a_tree : (tree : SourceText) (behind : List Lexeme) (answer : Answer) → Takes SourceText (SpellsSource deepest) ends_file lexemes end tree behind
-      → OfTree tree behind end answer → DataPart shelf OfTree lexemes end answer
+pub record DataPart (shelf : List ModuleState) (OfTree : SourceText → List Lexeme → TextEnd → Answer → Type 0) (lexemes : List Lexeme) (end : TextEnd) (answer : Answer) : Type 0 where
+  pub found : Finding SourceText
+  pub there : FindsWithin SourceText SpellsSource ends_file lexemes end found
+  pub answered : OfFinding shelf OfTree end found answer
 
 -- What is answered to a text: what its tokens are answered.
 pub record OfText (input : List ℕ) (OfTokens : List Lexeme → TextEnd → Answer → Type 0) (answer : Answer) : Type 0 where

@@ -1,7 +1,7 @@
 //! The edges of the program: the words that the system gives, and an output that fails at one call.
 
 use crate::command_line::command_words;
-use crate::output::end_output;
+use crate::output::{end_output, writer_below};
 use crate::program::ssi_program;
 use ssi_base::{MemSink, MemSource, StdSink};
 use ssi_trackside::{PointsModule, SignalModule, TrackModule, Trackside, is_shelf};
@@ -155,7 +155,8 @@ fn run_over(
     let mut source = MemSource::new(LAYOUT.to_vec(alloc)?, 64, Vec::new(alloc));
     let mut sink = StdSink::new(BufWriter::with_capacity(alloc, capacity, writer)?);
     let status = ssi_program(alloc, words.as_slice(), &mut source, &mut sink, &mut shelf);
-    let (_writer, status) = end_output(sink, status);
+    let status = end_output(&mut sink, status);
+    let _writer = writer_below(sink);
     Ok(status)
 }
 

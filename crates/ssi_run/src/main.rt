@@ -31,7 +31,7 @@ mod whole_runs;
 mod words;
 
 use crate::command_line::command_words;
-use crate::output::end_output;
+use crate::output::{end_output, writer_below};
 use crate::program::ssi_program;
 use crate::status::Failure;
 use ssi_base::{StdSink, StdSource};
@@ -73,6 +73,7 @@ fn main(rt: HostRuntime) -> ExitCode {
     let mut source = StdSource::new(rt.reader());
     let mut sink = StdSink::new(writer);
     let status = ssi_program(alloc, words.as_slice(), &mut source, &mut sink, &mut shelf);
-    let (_writer, status) = end_output(sink, status);
+    let status = end_output(&mut sink, status);
+    let _writer = writer_below(sink);
     ExitCode::from(status)
 }

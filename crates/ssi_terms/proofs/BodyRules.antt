@@ -6,9 +6,9 @@ use Rattle.ssi_lexer.specs.Lexemes.{Lexeme, token_of}
 use Rattle.ssi_lexer.specs.TokenTests.{Is, word, comma, sees}
 use Rattle.ssi_lexer.specs.Languages.{One, one, Listed, Optional, absent, present}
 use Rattle.ssi_lexer.specs.Parsers.{Parser, ◌&◌, tok, mapped, either, maybe, separated, too_deep}
-use Rattle.ssi_lexer.specs.Laws.{StartsWith, Lacks, Always, left_by, Extends, Good, Deepens, Deep}
+use Rattle.ssi_lexer.specs.Laws.{StartsWith, Lacks, Always, tokens_left, Extends, Good, Deepens, Deep}
 use Rattle.ssi_lexer.proofs.Joining.{Both, both, good_both, good_mapped, good_as, leaves_no_more}
-use Rattle.ssi_lexer.proofs.Sequences.{joined}
+use Rattle.ssi_lexer.proofs.Sequences.{good_then}
 use Rattle.ssi_lexer.proofs.Choosing.{Without, OneOf, the_one, the_other, good_maybe, good_either, good_either_stop}
 use Rattle.ssi_lexer.proofs.Listing.{good_separated}
 use Rattle.ssi_lexer.proofs.Deepening.{deep_mapped, deep_both, deep_tok, deep_either, deep_either_seen, deep_maybe, deep_separated, past_opener}
@@ -116,7 +116,7 @@ module _ (c : Parser CondTree) (b : Parser BodyTree) (C : CondTree → List Lexe
 
   good_otherwise : Good BodyTree (spec.otherwise_by b) (ElseOf B) (Lacks comma) ListEnds
   unfolding spec.otherwise_by
-  good_otherwise = good_mapped (Token × BodyTree) BodyTree (λ x. x.1) (tok is_else & b) ElseText (ElseOf B) (Lacks comma) ListEnds to_else from_else (joined (good_word (codes "else")) good_b)
+  good_otherwise = good_mapped (Token × BodyTree) BodyTree (λ x. x.1) (tok is_else & b) ElseText (ElseOf B) (Lacks comma) ListEnds to_else from_else (good_then (good_word (codes "else")) good_b)
 
   else_starts : (x : BodyTree) (u : List Lexeme) → ElseOf B x u → StartsWith is_else u
   else_starts x u (an_else m body v e s) = record { first = m; others = v; parts = refl; passes = e }
@@ -158,7 +158,7 @@ module _ (c : Parser CondTree) (b : Parser BodyTree) (C : CondTree → List Lexe
   good_from_body = good_both BodyTree (Option BodyTree × Token) b (spec.maybe_otherwise_by b & tok is_end) B FromElse (Lacks comma) ListEnds Always Always else_ends good_b good_from_else
 
   good_from_then : Good (Token × (BodyTree × (Option BodyTree × Token))) (tok is_then & (b & (spec.maybe_otherwise_by b & tok is_end))) FromThen Always Always
-  good_from_then = joined (good_word (codes "then")) good_from_body
+  good_from_then = good_then (good_word (codes "then")) good_from_body
 
   then_ends : (y : Token × (BodyTree × (Option BodyTree × Token))) (v rest : List Lexeme) → FromThen y v → Always rest → ListEnds (v ++ rest)
   then_ends y v rest t k =
@@ -193,7 +193,7 @@ module _ (c : Parser CondTree) (b : Parser BodyTree) (C : CondTree → List Lexe
 
   good_choice_by : Good PartTree (spec.choice_by c b) (ChoiceOf C B) Always Always
   unfolding spec.choice_by
-  good_choice_by = good_mapped ChoiceParts PartTree choice_of (tok is_if & rest_of_choice) ChoiceText (ChoiceOf C B) Always Always to_choice from_choice (joined (good_word (codes "if")) good_from_guard)
+  good_choice_by = good_mapped ChoiceParts PartTree choice_of (tok is_if & rest_of_choice) ChoiceText (ChoiceOf C B) Always Always to_choice from_choice (good_then (good_word (codes "if")) good_from_guard)
 
   choice_starts : (x : PartTree) (u : List Lexeme) → ChoiceOf C B x u → StartsWith is_if u
   choice_starts x u (a_choice o m e guard body other v w z h i j k d f) = record { first = o; others = _; parts = refl; passes = h }

@@ -8,10 +8,10 @@ use Rattle.ssi_lexer.specs.Lexemes.{Lexeme, token_of}
 use Rattle.ssi_lexer.specs.TokenTests.{Is, word, comma, sees}
 use Rattle.ssi_lexer.specs.Languages.{One, one, Listed, SeveralBy}
 use Rattle.ssi_lexer.specs.Parsers.{Parser, ◌&◌, tok, mapped, either, separated, several_by, too_deep}
-use Rattle.ssi_lexer.specs.Laws.{StartsWith, Lacks, Always, left_by, Extends, Good, Deepens, Deep}
+use Rattle.ssi_lexer.specs.Laws.{StartsWith, Lacks, Always, tokens_left, Extends, Good, Deepens, Deep}
 use Rattle.ssi_lexer.proofs.OneToken.{good_tok}
 use Rattle.ssi_lexer.proofs.Joining.{Both, both, good_both, good_mapped, good_as, leaves_no_more}
-use Rattle.ssi_lexer.proofs.Sequences.{joined}
+use Rattle.ssi_lexer.proofs.Sequences.{good_then}
 use Rattle.ssi_lexer.proofs.Choosing.{Without, OneOf, the_one, the_other, good_either, good_either_stop}
 use Rattle.ssi_lexer.proofs.Listing.{good_separated, good_several_by}
 use Rattle.ssi_lexer.proofs.Deepening.{extends_mapped, deep_mapped, deep_both, deep_tok, deep_either, deep_either_seen, deep_separated, deep_several_by, past_opener}
@@ -168,7 +168,7 @@ module _ (c : Parser CondTree) (C : CondTree → List Lexeme → Type 0) (good :
   unfolding spec.group_by
   good_group_by =
       good_mapped (Token × (List CondTree × Token)) (List CondTree) (λ x. x.1.0) (tok opens & (several_by is_or c & tok closes)) GroupText (GroupOf C) Always Always to_group from_group
-      (joined (good_tok opens (some_token k.Open []) refl) good_inner)
+      (good_then (good_tok opens (some_token k.Open []) refl) good_inner)
 
   group_starts : (x : List CondTree) (u : List Lexeme) → GroupOf C x u → StartsWith opens u
   group_starts x u (the_alternatives m n conds v e h f) = record { first = m; others = v ++ (n ∷ []); parts = refl; passes = e }
@@ -224,7 +224,7 @@ module _ (c : Parser CondTree) (C : CondTree → List Lexeme → Type 0) (good :
   past_group ts seen =
       extends_mapped i.Any (too_deep ts) (whole_group ts) (past_opener opens (λ x. x.1.0) rest_of_group (leaves_no_more (List CondTree × Token) rest_of_group (Inner c C good) Always Always (good_inner c C good)) ts seen)
 
-  group_leaves : (ts : List Lexeme) → length (left_by (mapped i.Any (spec.group_by c) ts)) ≤ length ts
+  group_leaves : (ts : List Lexeme) → length (tokens_left (mapped i.Any (spec.group_by c) ts)) ≤ length ts
   group_leaves =
       leaves_no_more ItemTree (mapped i.Any (spec.group_by c)) (GroupItem (spec.group_by c) (GroupOf C)) Always Always
       (good_mapped (List CondTree) ItemTree i.Any (spec.group_by c) (GroupOf C) (GroupItem (spec.group_by c) (GroupOf C)) Always Always (λ x u h. the_group x u h) (from_group_item (spec.group_by c) (GroupOf C)) (good_group_by c C good))

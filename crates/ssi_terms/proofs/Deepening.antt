@@ -13,16 +13,11 @@ use Rattle.ssi_terms.specs.SpotRules.{deep_spot}
 use Rattle.ssi_terms.specs.Read as read
 use Rattle.ssi_terms.specs.ReadIdentities as spec
 
--- ---- headers and files
+-- ---- a header and files
 
 pub deep_header : (file : List ℕ) → Deepens (Unit {0}) (read.header file) (read.header file)
 unfolding read.header
 deep_header file = deep_mapped (λ _. tt) (deep_both (deep_tok (word (codes "file"))) (deep_tok (name file)))
-
-pub deep_headers : (files : List (List ℕ)) → Deepens (Unit {0}) (read.headers files) (read.headers files)
-unfolding read.headers
-deep_headers [] = deep_pure tt
-deep_headers (file ∷ files) = deep_mapped (λ _. tt) (deep_both (deep_header file) (deep_headers files))
 
 pub deep_file : {A : Type 0} {p q : Parser A} (file : List ℕ) (test : Lexeme → Bool) → Deepens A p q → Deepens (List A) (spec.file file test p) (spec.file file test q)
 unfolding spec.file

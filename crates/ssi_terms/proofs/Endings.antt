@@ -1,6 +1,7 @@
--- What a reader of a language answers at its end: its clauses from what it reads.
-use Rattle.std.proofs.Common.{◌≡◌, ◌≢◌, Bool, true, false, List, [], ◌∷◌, ◌++◌, Result, Ok, Err, IfOk, IfErr, MatchResult, refl, sym, ap, subst, ◌∙◌}
-use Rattle.std.specs.Prelude.{if◌then◌else◌}
+-- What a reader of a language answers at its end: what it tells, from what it reads.
+use Rattle.std.proofs.Common.{◌≡◌, ◌≢◌, Bool, true, false, List, [], ◌∷◌, ◌++◌, Result, Ok, Err, IfErr, refl, sym, ap, subst, ◌∙◌}
+use Rattle.std.specs.Prelude.{if◌then◌else◌, Option, Some, None}
+use Rattle.std.specs.Option.{IfSome}
 use Rattle.std.proofs.lemmas.List.{append-nil}
 use Rattle.ssi_base.specs.declared.place.Place.{Place}
 use Rattle.ssi_lexer.specs.declared.token.LexFault.{LexFault}
@@ -11,97 +12,62 @@ use Rattle.ssi_lexer.specs.declared.wanted.Stop.TheVariants as s
 use Rattle.ssi_lexer.specs.Lexemes.{Lexeme}
 use Rattle.ssi_lexer.specs.Parsers.{Parser, Reads}
 use Rattle.ssi_lexer.specs.Laws.{Always, Good, Deepens}
-use Rattle.ssi_lexer.specs.Spelling.{place_of, IsEnded, NeedsMore, Takes, TakesFront, FirstFault, FirstTooDeep, StopsInside, StopsBefore}
+use Rattle.ssi_lexer.specs.Readings.{Reading, GoesOn}
+use Rattle.ssi_lexer.specs.Spelling.{next_place, IsEnded, NeedsMore, TakesFront, Finding, Finds, HasOneFinding, Leaves}
 use Rattle.ssi_lexer.proofs.Joining.{took, halted}
-use Rattle.ssi_lexer.proofs.Findings.{Finds, flat_finds}
+use Rattle.ssi_lexer.proofs.Findings.{FindsBy, flat_finds}
 use Rattle.ssi_lexer.proofs.Starting.{some_token}
 use Rattle.ssi_lexer.proofs.Spellings as spelling
 use Rattle.ssi_lexer.proofs.Spellings.{Follows}
 use Rattle.ssi_lexer.specs.declared.token.TokenKind.TheVariants.{Dot}
 use Rattle.ssi_terms.specs.declared.read_fault.ReadFault.{ReadFault}
 use Rattle.ssi_terms.specs.declared.read_fault.ReadFault.TheVariants as f
+use Rattle.ssi_terms.specs.Readers.{found_by, Tells, FindsFront, IsTold}
 use Rattle.ssi_terms.specs.Ending.{ended, front_ended}
 use Rattle.ssi_terms.specs.Tests.{any_token}
 
 -- ---- where a token or the end of the text has to follow
 
-module _ (A : Type 0) (p : Parser A) (S M : A → List Lexeme → Type 0) (ends : Lexeme → Bool) (finds : Finds A p S M ends) (old : List Lexeme) (end : TextEnd) where
-  -- the clauses of a public reader
-  pub record Told (new : List Lexeme) (result : Result A ReadFault) : Type 0 where
-    pub found : IfOk result (λ x. Takes A S ends old end x new)
-    pub only : (x : A) (rest : List Lexeme) → Takes A S ends old end x rest → MatchResult result (λ y. (y ≡ x) × (new ≡ rest)) (λ fault. fault ≡ f.Memory)
-    pub syntax : (place : Place) → result ≡ Err (f.Syntax place) → FirstFault A S M ends old end place
-    pub too_deep : (place : Place) → result ≡ Err (f.TooDeep place) → FirstTooDeep A S M ends old place
-    pub lexical : (fault : LexFault) → result ≡ Err (f.Lex fault) → StopsInside A S old end fault
+-- what was found is there, and is what the tokens that are left say
+pub record Told (A : Type 0) (There : Finding A → Type 0) (end : TextEnd) (new : List Lexeme) (result : Result A ReadFault) : Type 0 where
+  pub found : IfSome (found_by result new) There
+  pub leaves : IfSome (found_by result new) (λ found. Leaves found new end)
 
-  -- nothing is taken
-  abbrev Nothing : Type 0
-  Nothing = (x : A) (rest : List Lexeme) → ¬ Takes A S ends old end x rest
+module _ (A : Type 0) (p : Parser A) (S M : A → List Lexeme → Type 0) (ends : Lexeme → Bool) (finds : FindsBy A p S M ends) (old : List Lexeme) (end : TextEnd) where
+  abbrev Tells_so : List Lexeme → Result A ReadFault → Type 0
+  Tells_so = Told A (Finds A S M ends old end) end
 
-  told_ok : (new : List Lexeme) (x : A) → p old ≡ Ok (x, new) → IsEnded ends new end → Told new (Ok x)
-  told_ok new x e is = record {
-    found = finds.found old end x new e is;
-    only = λ y rest t. let same = sym e ∙ finds.takes_is old end y rest t in (spelling.value_is A x y new rest same, spelling.rest_is A x y new rest same);
-    syntax = λ place h. absurd cc;
-    too_deep = λ place h. absurd cc;
-    lexical = λ fault h. absurd cc;
-  }
+  told_read : (t : Lexeme) (ts : List Lexeme) (x : A) → p old ≡ Ok (x, t ∷ ts) → (b : Bool) → ends t ≡ b → Tells_so (t ∷ ts) (if b then Ok x else Err (f.Syntax t.place))
+  told_read t ts x e true is = record { found = finds.found old end x (t ∷ ts) e is; leaves = refl }
+  told_read t ts x e false is = record { found = finds.unended old end x t ts e is; leaves = refl }
 
-  told_syntax : (new : List Lexeme) (place : Place) → Nothing → FirstFault A S M ends old end place → Told new (Err (f.Syntax place))
-  told_syntax new place none fault = record {
-    found = tt;
-    only = λ x rest t. absurd (none x rest t);
-    syntax = λ other h. let same : place ≡ other = cc in subst (FirstFault A S M ends old end) same fault;
-    too_deep = λ other h. absurd cc;
-    lexical = λ other h. absurd cc;
-  }
-
-  told_deep : (new : List Lexeme) (place : Place) → Nothing → FirstTooDeep A S M ends old place → Told new (Err (f.TooDeep place))
-  told_deep new place none fault = record {
-    found = tt;
-    only = λ x rest t. absurd (none x rest t);
-    syntax = λ other h. absurd cc;
-    too_deep = λ other h. let same : place ≡ other = cc in subst (FirstTooDeep A S M ends old) same fault;
-    lexical = λ other h. absurd cc;
-  }
-
-  told_lexical : (new : List Lexeme) (fault : LexFault) → Nothing → StopsInside A S old end fault → Told new (Err (f.Lex fault))
-  told_lexical new fault none inside = record {
-    found = tt;
-    only = λ x rest t. absurd (none x rest t);
-    syntax = λ other h. absurd cc;
-    too_deep = λ other h. absurd cc;
-    lexical = λ other h. let same : fault ≡ other = cc in subst (StopsInside A S old end) same inside;
-  }
-
-  -- where the reader stops nothing is taken
-  none_stopped : (stop : Stop) (new : List Lexeme) → p old ≡ Err (stop, new) → Nothing
-  none_stopped stop new e x rest t = let same = sym e ∙ finds.takes_is old end x rest t in absurd cc
-
-  -- nor where what was read doesn't end
-  none_unended : (new : List Lexeme) (y : A) → p old ≡ Ok (y, new) → (IsEnded ends new end → ⊥) → Nothing
-  none_unended new y e unended x rest t =
-      let same : rest ≡ new = spelling.rest_is A x y rest new (sym (finds.takes_is old end x rest t) ∙ e) in
-      unended (subst (λ (ts : List Lexeme). IsEnded ends ts end) same t.ended)
-
-  told_read : (t : Lexeme) (ts : List Lexeme) (x : A) → p old ≡ Ok (x, t ∷ ts) → (b : Bool) → ends t ≡ b → Told (t ∷ ts) (if b then Ok x else Err (f.Syntax t.place))
-  told_read t ts x e true is = told_ok (t ∷ ts) x e is
-  told_read t ts x e false is = told_syntax (t ∷ ts) t.place (none_unended (t ∷ ts) x e (λ h. absurd cc)) (finds.unended old end x t ts e is)
-
-  told_by : (how : TextEnd) → how ≡ end → (read : Result A Stop) (new : List Lexeme) → Reads (p old) read new → Told new (ended ends read new how)
+  told_by : (how : TextEnd) → how ≡ end → (read : Result A Stop) (new : List Lexeme) → Reads (p old) read new → Tells_so new (ended ends read new how)
   told_by how is (Ok x) (t ∷ ts) e = told_read t ts x e (ends t) refl
-  told_by (Finished place) is (Ok x) [] e = told_ok [] x e (subst (IsEnded ends []) is tt)
-  told_by (Faulty fault) is (Ok x) [] e = told_lexical [] fault (none_unended [] x e (λ h. subst (IsEnded ends []) (sym is) h)) (record { begins = finds.read_inside old x e; faulty = sym is })
-  told_by how is (Err s.Syntax) (t ∷ ts) e = told_syntax (t ∷ ts) t.place (none_stopped s.Syntax (t ∷ ts) e) (finds.stopped old (t ∷ ts) end t.place e refl)
-  told_by (Finished place) is (Err s.Syntax) [] e = told_syntax [] place (none_stopped s.Syntax [] e) (finds.stopped old [] end place e (ap (place_of []) (sym is)))
-  told_by (Faulty fault) is (Err s.Syntax) [] e = told_lexical [] fault (none_stopped s.Syntax [] e) (record { begins = finds.stopped_inside old s.Syntax e; faulty = sym is })
-  told_by how is (Err s.TooDeep) (t ∷ ts) e = told_deep (t ∷ ts) t.place (none_stopped s.TooDeep (t ∷ ts) e) (finds.too_deep old t ts e)
+  told_by (Finished place) is (Ok x) [] e = record { found = finds.found old end x [] e (subst (IsEnded ends []) is tt); leaves = refl }
+  told_by (Faulty fault) is (Ok x) [] e = record { found = record { begins = finds.read_inside old x e; faulty = sym is }; leaves = ap (next_place []) (sym is) }
+  told_by how is (Err s.Syntax) (t ∷ ts) e = record { found = finds.stopped old (t ∷ ts) end t.place e refl; leaves = refl }
+  told_by (Finished place) is (Err s.Syntax) [] e = let at = ap (next_place []) (sym is) in record { found = finds.stopped old [] end place e at; leaves = at }
+  told_by (Faulty fault) is (Err s.Syntax) [] e = record { found = record { begins = finds.stopped_inside old s.Syntax e; faulty = sym is }; leaves = ap (next_place []) (sym is) }
+  told_by how is (Err s.TooDeep) (t ∷ ts) e = record { found = finds.too_deep old t ts e; leaves = refl }
   told_by how is (Err s.TooDeep) [] e = absurd (finds.not_at_end old e)
-  told_by how is (Err s.Memory) new e = record { found = tt; only = λ x rest t. refl; syntax = λ place h. absurd cc; too_deep = λ place h. absurd cc; lexical = λ fault h. absurd cc }
+  told_by how is (Err s.Memory) new e = record { found = tt; leaves = tt }
 
-  -- a reader that answers so meets the clauses
-  pub told : (read : Result A Stop) (new : List Lexeme) (how : TextEnd) (result : Result A ReadFault) → Reads (p old) read new → how ≡ end → result ≡ ended ends read new how → Told new result
-  told read new how result e is answer = subst (Told new) (sym answer) (told_by how is read new e)
+-- a reader that answers so tells what is there
+pub told : (A : Type 0) (p : Parser A) (S M : A → List Lexeme → Type 0) (ends : Lexeme → Bool) → FindsBy A p S M ends → (old new : Reading) (read : Result A Stop) (result : Result A ReadFault)
+    → Reads (p old.left) read new.left → GoesOn old new → result ≡ ended ends read new.left new.end → Tells A (Finds A S M ends) old new result
+told A p S M ends finds old new read result e on answer =
+    let same : new.end ≡ old.end = on.end in
+    let t = subst (Told A (Finds A S M ends old.left old.end) old.end new.left) (sym answer) (told_by A p S M ends finds old.left old.end new.end same read new.left e) in
+    record { found = t.found; leaves = subst (λ how. IfSome (found_by result new.left) (λ found. Leaves found new.left how)) (sym same) t.leaves; goes_on = on }
+
+if_told : {A : Type 0} {P : A → Type 0} (o : Option A) (x : A) → ((y : A) → P y → y ≡ x) → IfSome o P → IfSome o (λ y. y ≡ x)
+if_told None x only h = tt
+if_told (Some y) x only h = only y h
+
+-- where one finding is there, it is told
+pub is_told : (A : Type 0) (There : List Lexeme → TextEnd → Finding A → Type 0) → HasOneFinding A There → IsTold A There
+is_told A There one old new result found told is =
+    if_told (found_by result new.left) found (λ other h. one.one old.left old.end other found h is) told.found
 
 -- ---- where anything may follow
 
@@ -111,11 +77,8 @@ Anything = record { at_end = tt; before = λ t ts e. tt; some = some_token Dot [
 module _ (A : Type 0) (p : Parser A) (S : A → List Lexeme → Type 0) (good : Good A p S Always Always) (deepens : Deepens A p p) (old : List Lexeme) (end : TextEnd) where
   -- the clauses of a public reader that doesn't look at what follows
   pub record ToldFront (new : List Lexeme) (result : Result A ReadFault) : Type 0 where
-    pub found : IfOk result (λ x. TakesFront A S old x new)
+    pub told : Told A (FindsFront A S old end) end new result
     pub only : (x : A) (rest : List Lexeme) → TakesFront A S old x rest → (result ≡ Ok x) × (new ≡ rest)
-    pub syntax : (place : Place) → result ≡ Err (f.Syntax place) → FirstFault A S S any_token old end place
-    pub lexical : (fault : LexFault) → result ≡ Err (f.Lex fault) → StopsBefore A S old end fault
-    pub never_deep : (place : Place) → result ≢ Err (f.TooDeep place)
     pub never_memory : result ≢ Err f.Memory
 
   front_is : (x : A) (rest : List Lexeme) → TakesFront A S old x rest → p old ≡ Ok (x, rest)
@@ -124,25 +87,21 @@ module _ (A : Type 0) (p : Parser A) (S : A → List Lexeme → Type 0) (good : 
   front_stopped : (stop : Stop) (new : List Lexeme) → p old ≡ Err (stop, new) → (x : A) (rest : List Lexeme) → ¬ TakesFront A S old x rest
   front_stopped stop new e x rest t = let same = sym e ∙ front_is x rest t in absurd cc
 
-  pub front_ok : (new : List Lexeme) (x : A) → p old ≡ Ok (x, new) → ToldFront new (Ok x)
-  front_ok new x e = record {
-    found = let t = took A p S Always Always good old x new e in record { used = t.used; parts = t.parts; spells = t.spells };
-    only = λ y rest t. let same = sym e ∙ front_is y rest t in (ap Ok (spelling.value_is A x y new rest same), spelling.rest_is A x y new rest same);
-    syntax = λ place h. absurd cc;
-    lexical = λ fault h. absurd cc;
-    never_deep = λ place h. absurd cc;
-    never_memory = λ h. absurd cc;
-  }
+  front_ok : (new : List Lexeme) (x : A) → p old ≡ Ok (x, new) → ToldFront new (Ok x)
+  front_ok new x e =
+      let t = took A p S Always Always good old x new e in
+      record {
+        told = record { found = record { used = t.used; parts = t.parts; spells = t.spells }; leaves = refl };
+        only = λ y rest t. let same = sym e ∙ front_is y rest t in (ap Ok (spelling.value_is A x y new rest same), spelling.rest_is A x y new rest same);
+        never_memory = λ h. absurd cc;
+      }
 
-  front_syntax : (new : List Lexeme) (place : Place) → p old ≡ Err (s.Syntax, new) → place_of new end ≡ Ok place → ToldFront new (Err (f.Syntax place))
+  front_syntax : (new : List Lexeme) (place : Place) → p old ≡ Err (s.Syntax, new) → next_place new end ≡ Ok place → ToldFront new (Err (f.Syntax place))
   front_syntax new place e at =
       let finds = flat_finds A p S Always Always good deepens any_token Anything in
       record {
-        found = tt;
+        told = record { found = finds.stopped old new end place e at; leaves = at };
         only = λ x rest t. absurd (front_stopped s.Syntax new e x rest t);
-        syntax = λ other h. let same : place ≡ other = cc in subst (FirstFault A S S any_token old end) same (finds.stopped old new end place e at);
-        lexical = λ other h. absurd cc;
-        never_deep = λ other h. absurd cc;
         never_memory = λ h. absurd cc;
       }
 
@@ -156,18 +115,15 @@ module _ (A : Type 0) (p : Parser A) (S : A → List Lexeme → Type 0) (good : 
       let all : h.front ≡ old = sym (append-nil h.front) ∙ sym h.parts in
       let begins = needs_more h.value h.others (subst (λ (front : List Lexeme). S h.value (front ++ h.others)) all h.begins) e in
       record {
-        found = tt;
+        told = record { found = record { begins = begins; faulty = is }; leaves = ap (next_place []) is };
         only = λ x rest t. absurd (front_stopped s.Syntax [] e x rest t);
-        syntax = λ other h. absurd cc;
-        lexical = λ other h. let same : fault ≡ other = cc in record { begins = begins; faulty = is ∙ ap Faulty same };
-        never_deep = λ other h. absurd cc;
         never_memory = λ h. absurd cc;
       }
 
   front_by : (how : TextEnd) → how ≡ end → (read : Result A Stop) (new : List Lexeme) → Reads (p old) read new → IfErr read (λ stop. stop ≡ s.Syntax) → ToldFront new (front_ended read new how)
   front_by how is (Ok x) new e stops = front_ok new x e
   front_by how is (Err s.Syntax) (t ∷ ts) e stops = front_syntax (t ∷ ts) t.place e refl
-  front_by (Finished place) is (Err s.Syntax) [] e stops = front_syntax [] place e (ap (place_of []) (sym is))
+  front_by (Finished place) is (Err s.Syntax) [] e stops = front_syntax [] place e (ap (next_place []) (sym is))
   front_by (Faulty fault) is (Err s.Syntax) [] e stops = front_lexical fault e (sym is)
   front_by how is (Err s.TooDeep) new e stops = absurd cc
   front_by how is (Err s.Memory) new e stops = absurd cc
@@ -175,3 +131,12 @@ module _ (A : Type 0) (p : Parser A) (S : A → List Lexeme → Type 0) (good : 
   -- a reader that answers so meets the clauses
   pub told_front : (read : Result A Stop) (new : List Lexeme) (how : TextEnd) (result : Result A ReadFault) → Reads (p old) read new → IfErr read (λ stop. stop ≡ s.Syntax) → how ≡ end → result ≡ front_ended read new how → ToldFront new result
   told_front read new how result e stops is answer = subst (ToldFront new) (sym answer) (front_by how is read new e stops)
+
+-- what such a reader tells
+pub tells_front : (A : Type 0) (S : A → List Lexeme → Type 0) (old new : Reading) (result : Result A ReadFault) → GoesOn old new → Told A (FindsFront A S old.left old.end) old.end new.left result
+    → Tells A (FindsFront A S) old new result
+tells_front A S old new result on t = record {
+  found = t.found;
+  leaves = subst (λ how. IfSome (found_by result new.left) (λ found. Leaves found new.left how)) (sym (on.end)) t.leaves;
+  goes_on = on;
+}

@@ -9,7 +9,7 @@ use Rattle.ssi_lexer.specs.Laws.{StartsWith, Lacks, Always, Good, Deep}
 use Rattle.ssi_lexer.proofs.Joining.{Both, both, good_mapped}
 use Rattle.ssi_lexer.proofs.Choosing.{Without}
 use Rattle.ssi_lexer.proofs.Repeating.{good_turns}
-use Rattle.ssi_lexer.proofs.Sequences.{joined, joined_by}
+use Rattle.ssi_lexer.proofs.Sequences.{good_then, joined_by}
 use Rattle.ssi_lexer.proofs.Spellings.{Follows}
 use Rattle.ssi_lexer.proofs.Starting.{some_token, word_not_identity, word_not_number, starts_both}
 use Rattle.ssi_terms.specs.declared.tree.Spot.{Spot}
@@ -41,7 +41,7 @@ module _ (file : List ℕ) (A : Type 0) (test : Lexeme → Bool) (p : Parser A) 
   unfolding spec.file
   good_file starts g =
       good_mapped (Unit {0} × List A) (List A) (λ x. x.1) (read.header file & turns test p []) FileForm (SpellsFile file A S) (Lacks test) (Without test Always) to_file from_file
-      (joined (good_header file) (good_turns A test p S Always Always starts (λ ts e. tt) g))
+      (good_then (good_header file) (good_turns A test p S Always Always starts (λ ts e. tt) g))
 
 -- ---- files one after another
 

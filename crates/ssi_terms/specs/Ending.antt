@@ -10,16 +10,16 @@ use Rattle.ssi_terms.specs.declared.read_fault.ReadFault.{ReadFault}
 use Rattle.ssi_terms.specs.declared.read_fault.ReadFault.TheVariants as f
 
 -- the fault before which the tokens stand
-abbrev pub fault_at : List Lexeme → TextEnd → ReadFault
-fault_at [] (Finished place) = f.Syntax place
-fault_at [] (Faulty fault) = f.Lex fault
-fault_at (t ∷ ts) end = f.Syntax t.place
+abbrev pub fault_before : List Lexeme → TextEnd → ReadFault
+fault_before [] (Finished place) = f.Syntax place
+fault_before [] (Faulty fault) = f.Lex fault
+fault_before (t ∷ ts) end = f.Syntax t.place
 
 -- the level too deep that the next token opens
-abbrev pub too_deep_at : List Lexeme → TextEnd → ReadFault
-too_deep_at [] (Finished place) = f.TooDeep place
-too_deep_at [] (Faulty fault) = f.Lex fault
-too_deep_at (t ∷ ts) end = f.TooDeep t.place
+abbrev pub level_before : List Lexeme → TextEnd → ReadFault
+level_before [] (Finished place) = f.TooDeep place
+level_before [] (Faulty fault) = f.Lex fault
+level_before (t ∷ ts) end = f.TooDeep t.place
 
 -- what was read, where such a token or the end of the text comes next
 abbrev pub if_ended : {A : Type 0} → (Lexeme → Bool) → A → List Lexeme → TextEnd → Result A ReadFault
@@ -30,11 +30,11 @@ if_ended ends x (t ∷ ts) end = if ends t then Ok x else Err (f.Syntax t.place)
 -- the answer of a reader that doesn't look at what follows
 abbrev pub front_ended : {A : Type 0} → Result A Stop → List Lexeme → TextEnd → Result A ReadFault
 front_ended (Ok x) left end = Ok x
-front_ended (Err stop) left end = Err (fault_at left end)
+front_ended (Err stop) left end = Err (fault_before left end)
 
 -- the answer of a reader that has read so, or has stopped
 abbrev pub ended : {A : Type 0} → (Lexeme → Bool) → Result A Stop → List Lexeme → TextEnd → Result A ReadFault
 ended ends (Ok x) left end = if_ended ends x left end
-ended ends (Err s.Syntax) left end = Err (fault_at left end)
-ended ends (Err s.TooDeep) left end = Err (too_deep_at left end)
+ended ends (Err s.Syntax) left end = Err (fault_before left end)
+ended ends (Err s.TooDeep) left end = Err (level_before left end)
 ended ends (Err s.Memory) left end = Err f.Memory

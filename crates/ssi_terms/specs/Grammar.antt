@@ -3,7 +3,7 @@
 -- are those of the reader of tokens: Listed is x { , x }, SeveralBy is x mark x { mark x }, Optional is [ x ].
 use Rattle.std.specs.Prelude.{ℕ, zero, suc, codes, List, [], ◌∷◌, ◌++◌, Option}
 use Rattle.ssi_lexer.specs.Lexemes.{Lexeme}
-use Rattle.ssi_lexer.specs.TokenTests.{Is, word, name}
+use Rattle.ssi_lexer.specs.TokenTests.{Is, word}
 use Rattle.ssi_lexer.specs.Languages.{Listed, SeveralBy, Optional}
 use Rattle.ssi_terms.specs.declared.tree.CommandTree.{CommandTree}
 use Rattle.ssi_terms.specs.declared.tree.ItemTree.{ItemTree}
@@ -76,9 +76,3 @@ SpellsBodyBy groups choices = BodyOf (SpellsChoice groups choices)
 -- a body with so many levels of each at most
 abbrev pub SpellsBody : ℕ → BodyTree → List Lexeme → Type 0
 SpellsBody depth = SpellsBodyBy depth depth
-
--- headers one after another: the word `file` and a file's name
-pub data SpellsHeaders : List (List ℕ) → List Lexeme → Type 0 where
-  no_header : SpellsHeaders [] []
-  a_header : (f n : Lexeme) (file : List ℕ) (files : List (List ℕ)) (u : List Lexeme) → Is (word (codes "file")) f → Is (name file) n
-      → SpellsHeaders files u → SpellsHeaders (file ∷ files) (f ∷ n ∷ u)

@@ -11,7 +11,7 @@ use Rattle.ssi_lexer.specs.Laws.{StartsWith, Lacks, Always, Good}
 use Rattle.ssi_lexer.proofs.Joining.{Both, both, good_both, good_mapped, good_as}
 use Rattle.ssi_lexer.proofs.Choosing.{Without, OneOf, the_one, the_other, good_maybe, good_either}
 use Rattle.ssi_lexer.proofs.Listing.{good_separated}
-use Rattle.ssi_lexer.proofs.Sequences.{joined, joined_by}
+use Rattle.ssi_lexer.proofs.Sequences.{good_then, joined_by}
 use Rattle.ssi_lexer.proofs.Starting.{some_token, some_word, dot_not_comma, other_word, lacks_after, without_after, starts_one, some_identity, dot_not_word, dot_not_identity, good_dot}
 use Rattle.ssi_terms.specs.declared.tree.Spot.{Spot}
 use Rattle.ssi_terms.specs.Trees.{PointsText, RouteText, SubText, WiringText, ModuleText}
@@ -39,7 +39,7 @@ pub good_name_entry : (letter : ℕ) → Good Spot (name_entry (identity (letter
 unfolding name_entry
 good_name_entry letter =
     let test = identity (letter ∷ []) in
-    good_mapped (Spot × Token) Spot (λ x. x.0) (spot test & tok dot) (NameForm test) (SpellsName test) Always Always (to_name test) (from_name test) (joined (good_named letter) good_dot)
+    good_mapped (Spot × Token) Spot (λ x. x.0) (spot test & tok dot) (NameForm test) (SpellsName test) Always Always (to_name test) (from_name test) (good_then (good_named letter) good_dot)
 
 pub name_starts : (test : Lexeme → Bool) (x : Spot) (u : List Lexeme) → SpellsName test x u → StartsWith test u
 name_starts test x u (a_name n d e h) = record { first = n; others = d ∷ []; parts = refl; passes = e }
@@ -78,7 +78,7 @@ pub good_points : Good PointsText spec.points_entry SpellsPoints Always Always
 unfolding spec.points_entry
 good_points =
     good_mapped PointsParts PointsText points_of (spot points & (tok (word (codes "over")) & (separated (spot track) & tok dot))) PointsForm SpellsPoints Always Always to_points from_points
-    (joined (good_named 80) (joined (good_word (codes "over")) (good_names 84)))
+    (good_then (good_named 80) (good_then (good_word (codes "over")) (good_names 84)))
 
 pub points_start : (x : PointsText) (u : List Lexeme) → SpellsPoints x u → StartsWith points u
 points_start x u (the_points n o d tracks v e j s q) = record { first = n; others = _; parts = refl; passes = e }
@@ -116,7 +116,7 @@ pub good_route : Good RouteText spec.route_entry SpellsRoute Always Always
 unfolding spec.route_entry
 good_route =
     good_mapped RouteParts RouteText route_of (spot route & (tok (word (codes "from")) & (spot signal & (tok (word (codes "by")) & (separated (spot subroute) & tok dot))))) RouteForm SpellsRoute Always Always to_route from_route
-    (joined (good_named 82) (joined (good_word (codes "from")) (joined (good_named 83) (joined (good_word (codes "by")) (good_names 85)))))
+    (good_then (good_named 82) (good_then (good_word (codes "from")) (good_then (good_named 83) (good_then (good_word (codes "by")) (good_names 85)))))
 
 pub route_starts : (x : RouteText) (u : List Lexeme) → SpellsRoute x u → StartsWith route u
 route_starts x u (a_route n f s b d subs v e j r c l q) = record { first = n; others = _; parts = refl; passes = e }
@@ -171,7 +171,7 @@ pub good_lie : Good (Spot × Spot) spec.lie SpellsLie Always Always
 unfolding spec.lie
 good_lie =
     good_as (Spot × Spot) (spot points & spot lie_word) LieForm SpellsLie Always Always Always Always to_lie from_lie (λ rest e. e) (λ rest e. e)
-    (joined (good_named 80) good_lie_word)
+    (good_then (good_named 80) good_lie_word)
 
 abbrev LiesForm : Token × Pairs → List Lexeme → Type 0
 LiesForm = Both Token Pairs (One (word (codes "with"))) (Listed (Spot × Spot) SpellsLie)
@@ -186,7 +186,7 @@ good_lies : Good Pairs spec.lies SpellsLies (Lacks comma) (Without comma Always)
 unfolding spec.lies
 good_lies =
     good_mapped (Token × Pairs) Pairs (λ x. x.1) (tok (word (codes "with")) & separated spec.lie) LiesForm SpellsLies (Lacks comma) (Without comma Always) to_lies from_lies
-    (joined (good_word (codes "with")) (good_separated (Spot × Spot) spec.lie SpellsLie Always Always (λ ts e. tt) good_lie))
+    (good_then (good_word (codes "with")) (good_separated (Spot × Spot) spec.lie SpellsLie Always Always (λ ts e. tt) good_lie))
 
 lies_start : (x : Pairs) (u : List Lexeme) → SpellsLies x u → StartsWith (word (codes "with")) u
 lies_start x u (the_lies m lies v e s) = record { first = m; others = v; parts = refl; passes = e }
@@ -220,7 +220,7 @@ pub good_sub : Good SubText spec.sub_entry SpellsSub Always Always
 unfolding spec.sub_entry
 good_sub =
     good_mapped SubParts SubText sub_of (spot subroute & (tok (word (codes "on")) & (spot track & (spec.perhaps (word (codes "with")) spec.lies & tok dot)))) SubForm SpellsSub Always Always to_sub from_sub
-    (joined (good_named 85) (joined (good_word (codes "on")) (joined (good_named 84)
+    (good_then (good_named 85) (good_then (good_word (codes "on")) (good_then (good_named 84)
     (good_pairs (word (codes "with")) spec.lies SpellsLies (dot_not_word (codes "with")) lies_start good_lies))))
 
 pub sub_starts : (x : SubText) (u : List Lexeme) → SpellsSub x u → StartsWith subroute u
@@ -249,7 +249,7 @@ unfolding spec.pin
 good_pin letter =
     let test = identity (letter ∷ []) in
     good_mapped (Spot × (Token × Spot)) (Spot × Spot) pin_of (spot test & (tok (word (codes "at")) & spot any_number)) (PinForm test) (SpellsPin test) Always Always (to_pin test) (from_pin test)
-    (joined (good_named letter) (joined (good_word (codes "at")) good_number))
+    (good_then (good_named letter) (good_then (good_word (codes "at")) good_number))
 
 pins_start : (test : Lexeme → Bool) (x : Pairs) (u : List Lexeme) → Listed (Spot × Spot) (SpellsPin test) x u → StartsWith test u
 pins_start test x u (last y v (a_pin n m p e j q)) = record { first = n; others = _; parts = refl; passes = e }
@@ -280,7 +280,7 @@ unfolding spec.wired
 good_wired kind letter =
     let test = identity (letter ∷ []) in
     good_mapped (Spot × (Pairs × Token)) WiringText wired_of (spot (word kind) & (spec.perhaps test (separated (spec.pin test)) & tok dot)) (WiredForm kind test) (Wired kind test) Always Always (to_wired kind test) (from_wired kind test)
-    (joined (good_spot (word kind) (some_token k.Word kind) (some_word kind))
+    (good_then (good_spot (word kind) (some_token k.Word kind) (some_word kind))
     (good_pairs test (separated (spec.pin test)) (Listed (Spot × Spot) (SpellsPin test)) (dot_not_identity (letter ∷ [])) (pins_start test)
     (good_separated (Spot × Spot) (spec.pin test) (SpellsPin test) Always Always (λ ts e. tt) (good_pin letter))))
 
@@ -337,7 +337,7 @@ pub good_module : Good ModuleText spec.module_entry SpellsModule Always Always
 unfolding spec.module_entry
 good_module =
     good_mapped (Spot × WiringText) ModuleText module_of (spot any_number & spec.wiring) ModuleForm SpellsModule Always Always to_module from_module
-    (joined good_number good_wiring)
+    (good_then good_number good_wiring)
 
 pub module_starts : (x : ModuleText) (u : List Lexeme) → SpellsModule x u → StartsWith any_number u
 module_starts x u (of_points n m d pins v e f g h) = record { first = n; others = _; parts = refl; passes = e }

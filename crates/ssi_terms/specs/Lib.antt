@@ -4,6 +4,7 @@ pub mod Grammar
 pub mod Identities
 pub mod Read
 pub mod ReadIdentities
+pub mod Readers
 pub mod Ending
 pub mod SpotRules
 pub mod IdentityRules

@@ -1,4 +1,4 @@
--- What the readers of conditions, bodies, entries and headers compute, as functions of the tokens that are left. Proofs
+-- What the readers of conditions, bodies, entries and a header compute, as functions of the tokens that are left. Proofs
 -- go by it, and the parts that are offered to the layers above: Grammar says what is read, and ConditionRules and
 -- BodyRules that it is the same.
 use Rattle.std.specs.Prelude.{ℕ, zero, suc, Bool, codes, List, [], ◌∷◌, Option}
@@ -88,7 +88,3 @@ name_entry test = mapped (λ x. x.0) (spot test & tok dot)
 
 unfoldable pub header : List ℕ → Parser (Unit {0})
 header file = mapped (λ _. tt) (tok (word (codes "file")) & tok (name file))
-
-unfoldable pub headers : List (List ℕ) → Parser (Unit {0})
-headers [] = pure tt
-headers (file ∷ files) = mapped (λ _. tt) (header file & headers files)

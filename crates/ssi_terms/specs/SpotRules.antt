@@ -10,7 +10,7 @@ use Rattle.ssi_lexer.specs.Parsers.{◌&◌, tok, mapped}
 use Rattle.ssi_lexer.specs.Laws.{StartsWith, Always, Good, Deepens}
 use Rattle.ssi_lexer.proofs.OneToken.{good_tok}
 use Rattle.ssi_lexer.proofs.Joining.{Both, both, good_mapped}
-use Rattle.ssi_lexer.proofs.Sequences.{joined}
+use Rattle.ssi_lexer.proofs.Sequences.{good_then}
 use Rattle.ssi_lexer.proofs.Deepening.{deep_mapped, deep_tok}
 use Rattle.ssi_lexer.proofs.Starting.{some_token, some_word}
 use Rattle.ssi_terms.specs.declared.tree.Spot.{Spot}
@@ -59,7 +59,7 @@ module _ (first second : Lexeme → Bool) (B : Type 0) (f : Spot → Spot → B)
 
   pub good_two : Good Spot (spec.spot first) (SpotOf first) Always Always → Good Spot (spec.spot second) (SpotOf second) Always Always
       → Good B (mapped (λ x. f x.0 x.1) (spec.spot first & spec.spot second)) (TwoSpots first second B f) Always Always
-  good_two g h = good_mapped (Spot × Spot) B (λ x. f x.0 x.1) (spec.spot first & spec.spot second) Pair (TwoSpots first second B f) Always Always to_two from_two (joined g h)
+  good_two g h = good_mapped (Spot × Spot) B (λ x. f x.0 x.1) (spec.spot first & spec.spot second) Pair (TwoSpots first second B f) Always Always to_two from_two (good_then g h)
 
   pub starts_two : (x : B) (u : List Lexeme) → TwoSpots first second B f x u → StartsWith first u
   starts_two x u (two_spots n w e h) = record { first = n; others = w ∷ []; parts = refl; passes = e }

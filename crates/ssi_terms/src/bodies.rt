@@ -1,17 +1,16 @@
 //! Reads commands and bodies.
 
-ghost use Rattle.std.specs.Prelude.{◌≡◌, ◌≢◌, List, IfErr, IfOk, MatchResult};
-ghost use Rattle.ssi_base.specs.declared.place.Place.{Place as Where};
-ghost use Rattle.ssi_lexer.specs.declared.token.LexFault.{LexFault};
+ghost use Rattle.std.specs.Prelude.{◌≡◌, ◌≢◌, List, IfErr};
 ghost use Rattle.ssi_lexer.specs.Lexemes.{Lexeme};
 ghost use Rattle.ssi_lexer.specs.Parsers.{Reads};
 ghost use Rattle.ssi_lexer.specs.Readings.{GoesOn};
-ghost use Rattle.ssi_lexer.specs.Spelling.{AtAnyDepth, FirstFault, FirstTooDeep, HasOneAnswer, HasOneValue, StopsBefore, StopsInside, Takes, TakesFront};
+ghost use Rattle.ssi_lexer.specs.Spelling.{AtAnyDepth, HasOneFinding, HasOneValue, TakesFront};
 ghost use Rattle.ssi_terms.specs.declared.tree.BodyTree.{BodyTree as Tree};
 ghost use Rattle.ssi_terms.specs.declared.tree.CommandTree.{CommandTree as CommandOf};
 ghost use Rattle.ssi_terms.specs.Grammar.{deepest, SpellsBody, SpellsCommand};
 ghost use Rattle.ssi_terms.specs.Read as spec;
-ghost use Rattle.ssi_terms.specs.Tests.{any_token, ends_list};
+ghost use Rattle.ssi_terms.specs.Readers.{FindsFront, FindsWithin, IsTold, Tells};
+ghost use Rattle.ssi_terms.specs.Tests.{ends_list};
 
 use crate::conditions::{MOST_GROUPS, cond_within};
 use crate::ending::{front_ended, list_ended, room_for};
@@ -176,26 +175,15 @@ pub fn body(alloc: Global, tokens: &mut Tokens<'_>) -> Result<BodyTree, Stop>
 
 /// Reads a command, whatever follows. Memory is never wanted, and no level is too deep.
 ///
-/// Of a lexical and a syntax fault the one that stands first is answered. After an error the tokens stand where they
-/// stood, or further on.
+/// Of a lexical and a syntax fault the one that stands first is answered, and the tokens stand before it.
 pub fn read_command(tokens: &mut Tokens<'_>) -> Result<CommandTree, ReadFault>
-    // Exactly the tokens were taken that spell the tree.
-    ensures found { IfOk result (λ tree. TakesFront CommandOf SpellsCommand tokens.old.left tree tokens.new.left) }
+    // The tree and exactly its tokens, or the first fault.
+    ensures read { Tells CommandOf (FindsFront CommandOf SpellsCommand) tokens.old tokens.new result }
 
-    // A command is read.
+    // A command that is there is read.
     ensures only { (tree : CommandOf) (rest : List Lexeme) → TakesFront CommandOf SpellsCommand tokens.old.left tree rest
         → (result ≡ Ok tree) × (tokens.new.left ≡ rest) }
-
-    // A syntax fault stands at the first place where no spelling begins with the tokens so far.
-    ensures syntax { (place : Where) → result ≡ Err (ReadFault.Syntax place)
-        → FirstFault CommandOf SpellsCommand SpellsCommand any_token tokens.old.left tokens.old.end place }
-
-    // Before a lexical fault the tokens begin a spelling, and more of them are needed.
-    ensures lexical { (fault : LexFault) → result ≡ Err (ReadFault.Lex fault)
-        → StopsBefore CommandOf SpellsCommand tokens.old.left tokens.old.end fault }
-    ensures never_deep { (place : Where) → result ≢ Err (ReadFault.TooDeep place) }
     ensures never_memory { result ≢ Err ReadFault.Memory }
-    ensures goes_on { GoesOn tokens.old tokens.new }
 {
     let read = one_command(tokens);
     front_ended(tokens, read)
@@ -203,30 +191,12 @@ pub fn read_command(tokens: &mut Tokens<'_>) -> Result<CommandTree, ReadFault>
 
 /// Reads a body. What follows it is anything but `,`, or the end of the text.
 ///
-/// Of a lexical fault, a syntax fault and a level too deep the one that stands first is answered. After an error the
-/// tokens stand where they stood, or further on.
+/// Of a lexical fault, a syntax fault and a level too deep the one that stands first is answered, and the tokens stand
+/// before it. Where memory runs out they stand where they stood, or further on.
 pub fn read_body(alloc: Global, tokens: &mut Tokens<'_>) -> Result<BodyTree, ReadFault>
-    // Exactly the tokens were taken that spell the tree, with eight levels of choices at most, and of groups in each
-    // guard, and no `,` follows.
-    ensures found { IfOk result (λ tree. Takes Tree (SpellsBody deepest) ends_list tokens.old.left tokens.old.end tree tokens.new.left) }
-
-    // Such a body is read, unless memory runs out.
-    ensures only { (tree : Tree) (rest : List Lexeme)
-        → Takes Tree (SpellsBody deepest) ends_list tokens.old.left tokens.old.end tree rest
-        → MatchResult result (λ found. (found ≡ tree) × (tokens.new.left ≡ rest)) (λ fault. fault ≡ ReadFault.Memory) }
-
-    // A syntax fault stands at the first place where no spelling begins with the tokens so far, depths left aside.
-    ensures syntax { (place : Where) → result ≡ Err (ReadFault.Syntax place)
-        → FirstFault Tree (SpellsBody deepest) (AtAnyDepth Tree SpellsBody) ends_list tokens.old.left tokens.old.end place }
-
-    // The parenthesis or the `if` that opens a ninth level is the first token with which none goes on within the depths.
-    ensures too_deep { (place : Where) → result ≡ Err (ReadFault.TooDeep place)
-        → FirstTooDeep Tree (SpellsBody deepest) (AtAnyDepth Tree SpellsBody) ends_list tokens.old.left place }
-
-    // Before a lexical fault the tokens begin a spelling, and more of them are needed.
-    ensures lexical { (fault : LexFault) → result ≡ Err (ReadFault.Lex fault)
-        → StopsInside Tree (SpellsBody deepest) tokens.old.left tokens.old.end fault }
-    ensures goes_on { GoesOn tokens.old tokens.new }
+    // The tree and exactly its tokens, with eight levels of choices at most and of groups in each guard, and no `,`
+    // behind it, or the first fault.
+    ensures { Tells Tree (FindsWithin Tree SpellsBody ends_list) tokens.old tokens.new result }
 {
     let read = body(alloc, tokens);
     list_ended(tokens, read)
@@ -237,8 +207,11 @@ pub fn one_body_tree()
     // Tokens that spell two bodies spell one, depths left aside.
     ensures tree { HasOneValue Tree (AtAnyDepth Tree SpellsBody) }
 
-    // Exactly one of what `found`, `syntax`, `too_deep` and `lexical` of `read_body` say is true.
-    ensures answer { HasOneAnswer Tree (SpellsBody deepest) (AtAnyDepth Tree SpellsBody) ends_list }
+    // Exactly one thing is there: a body, a syntax fault, a level too deep, or a text that stops inside.
+    ensures finding { HasOneFinding Tree (FindsWithin Tree SpellsBody ends_list) }
+
+    // It is what `read_body` tells, unless memory runs out: so a body that is there is read.
+    ensures told { IsTold Tree (FindsWithin Tree SpellsBody ends_list) }
 
     // Tokens that spell two commands spell one.
     ensures command { HasOneValue CommandOf SpellsCommand }

@@ -1,16 +1,14 @@
 //! Reads conditions.
 
-ghost use Rattle.std.specs.Prelude.{◌≡◌, codes, List, IfOk, MatchResult};
-ghost use Rattle.ssi_base.specs.declared.place.Place.{Place as Where};
-ghost use Rattle.ssi_lexer.specs.declared.token.LexFault.{LexFault};
-ghost use Rattle.ssi_lexer.specs.Lexemes.{Lexeme};
+ghost use Rattle.std.specs.Prelude.{codes};
 ghost use Rattle.ssi_lexer.specs.Parsers.{Reads, several_by};
 ghost use Rattle.ssi_lexer.specs.Readings.{GoesOn};
 ghost use Rattle.ssi_lexer.specs.TokenTests.{word};
-ghost use Rattle.ssi_lexer.specs.Spelling.{AtAnyDepth, FirstFault, FirstTooDeep, HasOneAnswer, HasOneValue, StopsInside, Takes};
+ghost use Rattle.ssi_lexer.specs.Spelling.{AtAnyDepth, HasOneFinding, HasOneValue};
 ghost use Rattle.ssi_terms.specs.declared.tree.CondTree.{CondTree as Tree};
 ghost use Rattle.ssi_terms.specs.Grammar.{deepest, SpellsCond};
 ghost use Rattle.ssi_terms.specs.Read as spec;
+ghost use Rattle.ssi_terms.specs.Readers.{FindsWithin, IsTold, Tells};
 ghost use Rattle.ssi_terms.specs.Tests.{ends_list};
 
 use crate::ending::{list_ended, room_for};
@@ -133,29 +131,11 @@ pub fn cond(alloc: Global, tokens: &mut Tokens<'_>) -> Result<CondTree, Stop>
 
 /// Reads a condition. What follows it is anything but `,`, or the end of the text.
 ///
-/// Of a lexical fault, a syntax fault and a level too deep the one that stands first is answered. After an error the
-/// tokens stand where they stood, or further on.
+/// Of a lexical fault, a syntax fault and a level too deep the one that stands first is answered, and the tokens stand
+/// before it. Where memory runs out they stand where they stood, or further on.
 pub fn read_cond(alloc: Global, tokens: &mut Tokens<'_>) -> Result<CondTree, ReadFault>
-    // Exactly the tokens were taken that spell the tree, with eight levels of groups at most, and no `,` follows.
-    ensures found { IfOk result (λ tree. Takes Tree (SpellsCond deepest) ends_list tokens.old.left tokens.old.end tree tokens.new.left) }
-
-    // Such a condition is read, unless memory runs out.
-    ensures only { (tree : Tree) (rest : List Lexeme)
-        → Takes Tree (SpellsCond deepest) ends_list tokens.old.left tokens.old.end tree rest
-        → MatchResult result (λ found. (found ≡ tree) × (tokens.new.left ≡ rest)) (λ fault. fault ≡ ReadFault.Memory) }
-
-    // A syntax fault stands at the first place where no spelling begins with the tokens so far, depths left aside.
-    ensures syntax { (place : Where) → result ≡ Err (ReadFault.Syntax place)
-        → FirstFault Tree (SpellsCond deepest) (AtAnyDepth Tree SpellsCond) ends_list tokens.old.left tokens.old.end place }
-
-    // The parenthesis that opens a ninth level is the first token with which none goes on within the depths.
-    ensures too_deep { (place : Where) → result ≡ Err (ReadFault.TooDeep place)
-        → FirstTooDeep Tree (SpellsCond deepest) (AtAnyDepth Tree SpellsCond) ends_list tokens.old.left place }
-
-    // Before a lexical fault the tokens begin a spelling, and more of them are needed.
-    ensures lexical { (fault : LexFault) → result ≡ Err (ReadFault.Lex fault)
-        → StopsInside Tree (SpellsCond deepest) tokens.old.left tokens.old.end fault }
-    ensures goes_on { GoesOn tokens.old tokens.new }
+    // The tree and exactly its tokens, with eight levels of groups at most and no `,` behind it, or the first fault.
+    ensures { Tells Tree (FindsWithin Tree SpellsCond ends_list) tokens.old tokens.new result }
 {
     let read = cond(alloc, tokens);
     list_ended(tokens, read)
@@ -166,6 +146,9 @@ pub fn one_cond_tree()
     // Tokens that spell two conditions spell one, depths left aside.
     ensures tree { HasOneValue Tree (AtAnyDepth Tree SpellsCond) }
 
-    // Exactly one of what `found`, `syntax`, `too_deep` and `lexical` of `read_cond` say is true.
-    ensures answer { HasOneAnswer Tree (SpellsCond deepest) (AtAnyDepth Tree SpellsCond) ends_list }
+    // Exactly one thing is there: a condition, a syntax fault, a level too deep, or a text that stops inside.
+    ensures finding { HasOneFinding Tree (FindsWithin Tree SpellsCond ends_list) }
+
+    // It is what `read_cond` tells, unless memory runs out: so a condition that is there is read.
+    ensures told { IsTold Tree (FindsWithin Tree SpellsCond ends_list) }
 {}

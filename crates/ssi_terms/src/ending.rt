@@ -2,7 +2,7 @@
 
 ghost use Rattle.std.specs.Prelude.{◌≡◌, codes, if◌then◌else◌};
 ghost use Rattle.ssi_lexer.specs.TokenTests.{comma, sees, word};
-ghost use Rattle.ssi_terms.specs.Ending.{ended, fault_at, front_ended as front_ended_of, if_ended, too_deep_at};
+ghost use Rattle.ssi_terms.specs.Ending.{ended, fault_before, front_ended as front_ended_of, if_ended, level_before};
 ghost use Rattle.ssi_terms.specs.Tests.{ends_list};
 
 use crate::read_fault::ReadFault;
@@ -10,7 +10,7 @@ use ssi_lexer::{Stop, TextEnd, TokenKind, Tokens, Wanted};
 
 /// The fault before which the tokens stand.
 fn fault(tokens: &Tokens<'_>) -> ReadFault
-    ensures { result ≡ fault_at tokens.now.left tokens.now.end }
+    ensures { result ≡ fault_before tokens.now.left tokens.now.end }
 {
     match tokens.place() {
         Ok(place) => ReadFault::Syntax(place),
@@ -20,7 +20,7 @@ fn fault(tokens: &Tokens<'_>) -> ReadFault
 
 /// The level too deep that the next token opens.
 fn too_deep(tokens: &Tokens<'_>) -> ReadFault
-    ensures { result ≡ too_deep_at tokens.now.left tokens.now.end }
+    ensures { result ≡ level_before tokens.now.left tokens.now.end }
 {
     match tokens.place() {
         Ok(place) => ReadFault::TooDeep(place),

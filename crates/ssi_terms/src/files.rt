@@ -1,4 +1,4 @@
-//! Reads headers of files, and files.
+//! Reads the header of a file, and files.
 
 ghost use Rattle.std.specs.Prelude.{◌≡◌};
 ghost use Rattle.ssi_lexer.specs.Parsers.{Reads, ReadsAll};
@@ -10,25 +10,14 @@ use crate::spots::token;
 use ssi_lexer::{Entry, Stop, Tokens, Wanted, entries};
 use std::alloc::Global;
 
-/// Reads a header: `file` and this name. For readers of the layers above, as [`headers`].
+/// Reads a header: `file` and this name.
 #[tactic(auto, unfolding(crate::specs::Read::header))]
-pub fn header(tokens: &mut Tokens<'_>, file: &[u8]) -> Result<(), Stop>
+fn header(tokens: &mut Tokens<'_>, file: &[u8]) -> Result<(), Stop>
     ensures reads { Reads (spec.header file.now tokens.old.left) result tokens.new.left }
     ensures goes_on { GoesOn tokens.old tokens.new }
 {
     token(tokens, Wanted::Word(b"file"))?;
     token(tokens, Wanted::Name(file))?;
-    Ok(())
-}
-
-/// Reads the headers of these files, one after another; by `good_headers` it reads `SpellsHeaders`.
-pub fn headers(tokens: &mut Tokens<'_>, files: &[[u8; 3]]) -> Result<(), Stop>
-    ensures reads { Reads (spec.headers files.now tokens.old.left) result tokens.new.left }
-    ensures goes_on { GoesOn tokens.old tokens.new }
-{
-    for file in files {
-        header(tokens, file)?;
-    }
     Ok(())
 }
 

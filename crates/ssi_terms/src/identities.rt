@@ -1,14 +1,13 @@
 //! Reads the files of identities.
 
-ghost use Rattle.std.specs.Prelude.{◌≡◌, ◌≢◌, List, IfOk, MatchResult, codes};
+ghost use Rattle.std.specs.Prelude.{◌≢◌};
 ghost use Rattle.ssi_base.specs.declared.place.Place.{Place as Where};
-ghost use Rattle.ssi_lexer.specs.declared.token.LexFault.{LexFault};
-ghost use Rattle.ssi_lexer.specs.Lexemes.{Lexeme};
 ghost use Rattle.ssi_lexer.specs.Parsers.{Reads};
 ghost use Rattle.ssi_lexer.specs.Readings.{GoesOn};
-ghost use Rattle.ssi_lexer.specs.Spelling.{FirstFault, HasOneAnswer, HasOneValue, StopsInside, Takes};
+ghost use Rattle.ssi_lexer.specs.Spelling.{HasOneFinding, HasOneValue};
 ghost use Rattle.ssi_terms.specs.Identities.{SpellsIdentities};
 ghost use Rattle.ssi_terms.specs.ReadIdentities as spec;
+ghost use Rattle.ssi_terms.specs.Readers.{FindsFlat, IsTold, Tells};
 ghost use Rattle.ssi_terms.specs.Tests.{ends_file};
 ghost use Rattle.ssi_terms.specs.Trees.{IdentityText};
 
@@ -49,28 +48,14 @@ pub fn identity_files(alloc: Global, tokens: &mut Tokens<'_>) -> Result<Identity
 
 /// Reads the files PTS, SIG, TCS, RTE, SUB, FLG and TFM, up to the next `file` or the end of the text.
 ///
-/// Of a lexical and a syntax fault the one that stands first is answered. After an error the tokens stand
-/// where they stood, or further on.
+/// Of a lexical and a syntax fault the one that stands first is answered, and the tokens stand before it. Where memory
+/// runs out they stand where they stood, or further on.
 pub fn read_identities(alloc: Global, tokens: &mut Tokens<'_>) -> Result<IdentityTree, ReadFault>
-    // Exactly the tokens were taken that spell the tree, and `file` or the end of the text follows.
-    ensures found { IfOk result (λ tree. Takes IdentityText SpellsIdentities ends_file tokens.old.left tokens.old.end tree tokens.new.left) }
-
-    // Such files are read, unless memory runs out.
-    ensures only { (tree : IdentityText) (rest : List Lexeme)
-        → Takes IdentityText SpellsIdentities ends_file tokens.old.left tokens.old.end tree rest
-        → MatchResult result (λ found. (found ≡ tree) × (tokens.new.left ≡ rest)) (λ fault. fault ≡ ReadFault.Memory) }
-
-    // A syntax fault stands at the first place where no spelling begins with the tokens so far.
-    ensures syntax { (place : Where) → result ≡ Err (ReadFault.Syntax place)
-        → FirstFault IdentityText SpellsIdentities SpellsIdentities ends_file tokens.old.left tokens.old.end place }
-
-    // Before a lexical fault the tokens begin a spelling, and more of them are needed.
-    ensures lexical { (fault : LexFault) → result ≡ Err (ReadFault.Lex fault)
-        → StopsInside IdentityText SpellsIdentities tokens.old.left tokens.old.end fault }
+    // The tree and exactly its tokens, with `file` or the end of the text behind it, or the first fault.
+    ensures read { Tells IdentityText (FindsFlat IdentityText SpellsIdentities ends_file) tokens.old tokens.new result }
 
     // These files have no levels.
     ensures never_deep { (place : Where) → result ≢ Err (ReadFault.TooDeep place) }
-    ensures goes_on { GoesOn tokens.old tokens.new }
 {
     let read = identity_files(alloc, tokens);
     file_ended(tokens, read)
@@ -81,6 +66,9 @@ pub fn one_identity_tree()
     // Tokens that spell two trees of these files spell one.
     ensures tree { HasOneValue IdentityText SpellsIdentities }
 
-    // Exactly one of what `found`, `syntax` and `lexical` of `read_identities` say is true.
-    ensures answer { HasOneAnswer IdentityText SpellsIdentities SpellsIdentities ends_file }
+    // Exactly one thing is there: a tree, a syntax fault, or a text that stops inside.
+    ensures finding { HasOneFinding IdentityText (FindsFlat IdentityText SpellsIdentities ends_file) }
+
+    // It is what `read_identities` tells, unless memory runs out: so files that are there are read.
+    ensures told { IsTold IdentityText (FindsFlat IdentityText SpellsIdentities ends_file) }
 {}

@@ -1,11 +1,12 @@
 //! Trees of the source, read from its tokens.
 //!
-//! The layer above may rely on [`read_cond`], [`read_body`], [`read_command`] and [`read_identities`]: each
-//! answers the tree of its part that the tokens spell, or the first fault of the text, lexical, of syntax or
-//! of depth, at its exact place. A layer that reads further files composes its reader of [`cond`], [`body`],
-//! [`command`], [`identity_files`], [`headers`], [`file`](fn@file) with an entry of its own, and
-//! [`file_ended`]: their clauses say what they compute, and laws of specs/ and proofs/ that it is the
-//! grammar. It stands on `ssi_lexer` for tokens and for what readers have in common.
+//! The layers above make their readers of [`cond`], [`body`], [`Command`], [`identity_files`],
+//! [`file`](fn@file) with an entry of their own, and [`file_ended`]: their clauses say what they compute, and
+//! laws of specs/ and proofs/ that it is the grammar. [`read_cond`], [`read_body`], [`read_command`] and
+//! [`read_identities`] read a part alone: each answers the tree of its part that the tokens spell, or the first
+//! fault of the text, lexical, of syntax or of depth, at its exact place (`Tells`).
+//!
+//! It stands on `ssi_lexer` for tokens and for what readers have in common.
 #![tactic(auto)]
 
 mod bodies;
@@ -28,7 +29,7 @@ mod tree;
 pub use bodies::{Command, body, one_body_tree, read_body, read_command};
 pub use conditions::{cond, one_cond_tree, read_cond};
 pub use ending::file_ended;
-pub use files::{file, header, headers};
+pub use files::file;
 pub use identities::{identity_files, one_identity_tree, read_identities};
 pub use identity_tree::{IdentityTree, ModuleEntry, PointsEntry, RouteEntry, SubEntry};
 pub use read_fault::ReadFault;

@@ -671,36 +671,3 @@ fn the_opening_of_a_ninth_level_is_told(rt: HostRuntime) -> Result<(), Fail> {
     }
     Ok(())
 }
-
-/// Reads two headers, and answers the column of the token that fits nothing.
-fn wrong_header(rt: &impl Abort, text: &str) -> Option<u32> {
-    let bytes = text.as_bytes();
-    assert!(rt; bytes.len() <= 1000);
-    let mut tokens = Tokens::new(bytes, 0);
-    match headers(&mut tokens, &[*b"PFM", *b"FOP"]) {
-        Err(Stop::Syntax) => Some(tokens.place().ok()?.column),
-        _ => None,
-    }
-}
-
-#[test]
-fn headers_stand_in_their_order(rt: HostRuntime) {
-    for (text, want) in [
-        ("file PFM file FOP", None),
-        ("file PFM file FOP file", None),
-        ("file PFM file FOP )", None),
-        ("", Some(1)),
-        ("file", Some(5)),
-        ("file PFM", Some(9)),
-        ("PFM file FOP", Some(1)),
-        ("files PFM file FOP", Some(1)),
-        ("file FOP file PFM", Some(6)),
-        ("file PF file FOP", Some(6)),
-        ("file pfm file FOP", Some(6)),
-        ("file PFM FOP", Some(10)),
-        ("file PFM Q1 L1 s . file FOP", Some(10)),
-        ("file PFM file OPT", Some(15)),
-    ] {
-        assert_eq!(rt; wrong_header(&rt, text), want, "{text}");
-    }
-}

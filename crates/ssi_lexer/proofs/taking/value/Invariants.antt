@@ -1,6 +1,6 @@
 use Rattle.std.proofs.Common.{◌≡◌, ◌+◌, ◌-◌, ◌*◌, ◌^◌, ◌≤◌, drop}
 use Rattle.std.specs.Prelude.{fold}
-use Rattle.ssi_lexer.specs.Parsers.{value_of_digits}
+use Rattle.ssi_lexer.specs.Lexemes.{value_of_digits}
 use Rattle.ssi_lexer.proofs.taking.value.Given as goal
 
 abbrev pub invariant-loop-digit : goal.invariant-loop-digit

@@ -6,16 +6,6 @@ use Rattle.ssi_terms.proofs.conditions.read_cond.Goals as goal
 
 pub returns : goal.returns
 returns c =
-    let old = c.args.tokens.now in
     let read = c.cond-read in
-    let new = read.new.tokens in
     let finds = deep_finds _ _ _ _ _ conditions _ list_follows deepest in
-    let clauses = told _ _ _ _ _ finds old.left old.end read.result new.left new.end c.list_ended.result read.ensures.reads read.ensures.goes_on.end c.list_ended.ensures in
-    record {
-      found = clauses.found;
-      only = clauses.only;
-      syntax = clauses.syntax;
-      too_deep = clauses.too_deep;
-      lexical = clauses.lexical;
-      goes_on = read.ensures.goes_on;
-    }
+    told _ _ _ _ _ finds c.args.tokens.now read.new.tokens read.result c.list_ended.result read.ensures.reads read.ensures.goes_on c.list_ended.ensures
