@@ -1,6 +1,6 @@
 use super::*;
 use ssi_base::Place;
-use ssi_lexer::{Stop, Tokens};
+use ssi_lexer::Tokens;
 use std::alloc::Global;
 use std::process::Abort;
 use std::test::Fail;
@@ -309,202 +309,36 @@ fn spots_tell_where_they_stand(rt: HostRuntime) -> Result<(), Fail> {
     Ok(())
 }
 
-/// What fits at a place.
-#[derive(Clone, Copy)]
-enum Fits {
-    /// The begin of an item.
-    Item,
-    /// The begin of a part of a body.
-    Part,
-    /// A name with a state.
-    Name,
-    /// A word of a test or a command.
-    Word,
-    /// One of these.
-    One(&'static [&'static str]),
-    /// Whatever is a token: a condition or a body is whole before it.
-    Any,
-}
-
-/// A text for a reader, each token with what fits in its place.
-type Row = (Reader, &'static [(&'static str, Fits)]);
-
-const ROWS: [Row; 3] = [
-    (
-        Reader::Condition,
-        &[
-            ("L1", Fits::Item),
-            ("s", Fits::Word),
-            (",", Fits::Any),
-            ("0", Fits::Item),
-            ("h", Fits::One(&["h", "l"])),
-            (",", Fits::Any),
-            ("(", Fits::Item),
-            ("P1", Fits::Item),
-            ("cnf", Fits::Word),
-            (",", Fits::One(&[",", "or"])),
-            ("1", Fits::Item),
-            ("l", Fits::One(&["h", "l"])),
-            ("or", Fits::One(&[",", "or"])),
-            ("(", Fits::Item),
-            ("T1", Fits::Item),
-            ("c", Fits::Word),
-            ("or", Fits::One(&[",", "or"])),
-            ("R1", Fits::Item),
-            ("a", Fits::Word),
-            (")", Fits::One(&[",", "or", ")"])),
-            ("or", Fits::One(&[",", "or", ")"])),
-            ("S1", Fits::Item),
-            ("lp", Fits::Word),
-            (")", Fits::One(&[",", "or", ")"])),
-            (",", Fits::Any),
-            ("U1", Fits::Item),
-            ("f", Fits::Word),
-        ],
-    ),
-    (
-        Reader::Body,
-        &[
-            ("P1", Fits::Part),
-            ("cn", Fits::Word),
-            (",", Fits::Any),
-            ("if", Fits::Part),
-            ("L1", Fits::Item),
-            ("s", Fits::Word),
-            (",", Fits::One(&[",", "then"])),
-            ("(", Fits::Item),
-            ("T1", Fits::Item),
-            ("c", Fits::Word),
-            ("or", Fits::One(&[",", "or"])),
-            ("T2", Fits::Item),
-            ("c", Fits::Word),
-            (")", Fits::One(&[",", "or", ")"])),
-            ("then", Fits::One(&[",", "then"])),
-            ("R1", Fits::Part),
-            ("s", Fits::Word),
-            (",", Fits::One(&[",", "else", "end"])),
-            ("if", Fits::Part),
-            ("0", Fits::Item),
-            ("h", Fits::One(&["h", "l"])),
-            ("then", Fits::One(&[",", "then"])),
-            ("S1", Fits::Part),
-            ("lp", Fits::Word),
-            ("else", Fits::One(&[",", "else", "end"])),
-            ("S1", Fits::Part),
-            ("xlp", Fits::Word),
-            ("end", Fits::One(&[",", "end"])),
-            ("else", Fits::One(&[",", "else", "end"])),
-            ("if", Fits::Part),
-            ("U1", Fits::Item),
-            ("f", Fits::Word),
-            ("then", Fits::One(&[",", "then"])),
-            ("U1", Fits::Part),
-            ("l", Fits::Word),
-            ("end", Fits::One(&[",", "else", "end"])),
-            (",", Fits::One(&[",", "end"])),
-            ("L1", Fits::Part),
-            ("xs", Fits::Word),
-            ("end", Fits::One(&[",", "end"])),
-            (",", Fits::Any),
-            ("L2", Fits::Part),
-            ("s", Fits::Word),
-        ],
-    ),
-    (Reader::Command, &[("R1", Fits::Name), ("xs", Fits::Word)]),
-];
-
-/// Whether the token fits there.
-fn may_stand(place: Fits, token: &str) -> bool {
-    match place {
-        Fits::Item => NAMES.contains(&token) || token == "7" || token == "(",
-        Fits::Part => NAMES.contains(&token) || token == "if",
-        Fits::Name => NAMES.contains(&token),
-        Fits::Word => WORDS.contains(&token),
-        Fits::One(tokens) => tokens.contains(&token),
-        Fits::Any => true,
-    }
-}
-
-/// The row's text with this at the index in place of its own token, each in a line of its own.
-fn with_wrong(alloc: Global, row: &Row, index: usize, wrong: &str) -> Result<String, Fail> {
-    let mut text = cut_before(alloc, row, index)?;
-    text.push_str(wrong)?;
-    for (token, _) in row.1.get(index.saturating_add(1)..).unwrap_or_default() {
-        text.push_str("\n")?;
-        text.push_str(token)?;
-    }
-    Ok(text)
-}
-
-/// The row's text up to the token at the index.
-fn cut_before(alloc: Global, row: &Row, index: usize) -> Result<String, Fail> {
-    let mut text = String::new(alloc);
-    for (token, _) in row.1.get(..index).unwrap_or_default() {
-        text.push_str(token)?;
-        text.push_str("\n")?;
-    }
-    Ok(text)
-}
-
-/// This fault at the token with the index.
-fn fault_at(alloc: Global, index: usize, fault: &str) -> Result<String, Fail> {
-    Ok(format!(in alloc; "{}:1 {fault}", index.saturating_add(1))?)
-}
-
 #[test]
-fn each_wrong_token_is_told_at_its_place(rt: HostRuntime) -> Result<(), Fail> {
+fn the_first_fault_is_told_at_its_place(rt: HostRuntime) -> Result<(), Fail> {
     let alloc = rt.alloc();
-    for row in &ROWS {
-        for (index, (_, place)) in row.1.iter().enumerate() {
-            let want = fault_at(alloc, index, "S1")?;
-            for wrong in NAMES.iter().chain(WORDS.iter()).chain(OTHERS.iter()) {
-                if !may_stand(*place, wrong) {
-                    let text = with_wrong(alloc, row, index, wrong)?;
-                    check(&rt, alloc, row.0, text.as_str(), want.as_str())?;
-                }
-            }
-        }
+    for (text, want) in [
+        ("", "1:1 S1"),
+        ("L1", "1:3 S1"),
+        ("L1 q", "1:4 S1"),
+        ("Q1 s", "1:1 S1"),
+        ("0 s", "1:3 S1"),
+        ("L1 s,", "1:6 S1"),
+        ("(L1 s)", "1:6 S1"),
+        ("(L1 s or L2 s", "1:14 S1"),
+        // Of a lexical and a syntax fault the first.
+        ("L1 #", "1:4 L1"),
+        ("L1 . #", "1:4 S1"),
+        ("L1 ABCDEFGHIJKLMNOPQ .", "1:4 L2"),
+        ("00 h", "1:1 L3"),
+    ] {
+        check(&rt, alloc, Reader::Condition, text, want)?;
     }
-    Ok(())
-}
-
-#[test]
-fn the_end_is_told_where_more_is_needed(rt: HostRuntime) -> Result<(), Fail> {
-    let alloc = rt.alloc();
-    for row in &ROWS {
-        for (index, (_, place)) in row.1.iter().enumerate() {
-            // The mark `.` fits where no more is needed, and only there.
-            if !may_stand(*place, ".") {
-                let text = cut_before(alloc, row, index)?;
-                let want = fault_at(alloc, index, "S1")?;
-                check(&rt, alloc, row.0, text.as_str(), want.as_str())?;
-            }
-        }
+    for (text, want) in [
+        ("if L1 s L2 s end", "1:9 S1"),
+        ("if L1 s then end", "1:14 S1"),
+        ("if L1 s then L2 s else end", "1:24 S1"),
+        ("if L1 s then L2 s", "1:18 S1"),
+        ("if L1 s then # end", "1:14 L1"),
+    ] {
+        check(&rt, alloc, Reader::Body, text, want)?;
     }
-    Ok(())
-}
-
-#[test]
-fn of_two_faults_the_first_is_told(rt: HostRuntime) -> Result<(), Fail> {
-    let alloc = rt.alloc();
-    for row in &ROWS {
-        for (index, (_, place)) in row.1.iter().enumerate() {
-            for (lexical, code) in LEXICAL {
-                let mut before = with_wrong(alloc, row, index, lexical)?;
-                before.push_str("\n.")?;
-                let want = fault_at(alloc, index, code)?;
-                check(&rt, alloc, row.0, before.as_str(), want.as_str())?;
-                if !may_stand(*place, ".") {
-                    let mut behind = with_wrong(alloc, row, index, ".")?;
-                    behind.push_str("\n")?;
-                    behind.push_str(lexical)?;
-                    let want = fault_at(alloc, index, "S1")?;
-                    check(&rt, alloc, row.0, behind.as_str(), want.as_str())?;
-                }
-            }
-        }
-    }
-    Ok(())
+    check(&rt, alloc, Reader::Command, "R1", "1:3 S1")
 }
 
 /// The reader takes `L1 s` alone where this follows, or tells this fault of it.
