@@ -24,7 +24,7 @@ pub use input::{ReadAll, read_all};
 pub use mem_sink::MemSink;
 pub use mem_source::MemSource;
 pub use memory::OutOfMemory;
-pub use output::write_all;
+pub use output::{write_all, write_three, write_two};
 pub use outside::{Failed, Sink, Source};
 pub use place::Place;
 pub use std_edge::{StdSink, StdSource};

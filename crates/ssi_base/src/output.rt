@@ -1,5 +1,5 @@
-// A whole piece is written.
-ghost use Rattle.std.specs.Prelude.{◌≡◌, [], IsOk};
+// Whole pieces are written.
+ghost use Rattle.std.specs.Prelude.{◌≡◌, ◌++◌, [], IsOk};
 ghost use Rattle.ssi_base.specs.Streams.{Writes};
 
 use crate::outside::{Failed, Sink};
@@ -17,4 +17,30 @@ pub fn write_all<K: Sink>(sink: &mut K, piece: &[u8]) -> Result<(), Failed>
         done += sink.write(&piece[done..])?;
     }
     Ok(())
+}
+
+/// Writes two pieces, one after another.
+#[tactic(auto, using(crate::proofs::Writing::joins))]
+pub fn write_two<K: Sink>(sink: &mut K, first: &[u8], second: &[u8]) -> Result<(), Failed>
+    ensures { Writes (K.written sink.old) (K.written sink.new) (K.faults sink.old) (K.faults sink.new)
+        (first.now ++ second.now) result }
+{
+    write_all(sink, first)?;
+    write_all(sink, second)
+}
+
+/// Writes three pieces, one after another.
+#[tactic(auto, using(crate::proofs::Writing::joins))]
+pub fn write_three<K: Sink>(
+    sink: &mut K,
+    first: &[u8],
+    second: &[u8],
+    third: &[u8],
+) -> Result<(), Failed>
+    ensures { Writes (K.written sink.old) (K.written sink.new) (K.faults sink.old) (K.faults sink.new)
+        (first.now ++ second.now ++ third.now) result }
+{
+    write_all(sink, first)?;
+    write_all(sink, second)?;
+    write_all(sink, third)
 }

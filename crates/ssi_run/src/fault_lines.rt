@@ -5,10 +5,10 @@ ghost use Rattle.ssi_base.specs.Streams.{Writes};
 ghost use Rattle.ssi_names.specs.Texts.{characters};
 ghost use Rattle.ssi_run.specs.FaultLines.{depth_line, fault_at, faulty_token, lexical_line, name_fault_line, name_fault_lines, script_fault_line, syntax_line};
 
-use ssi_base::{Failed, Place, Sink, decimal, write_all};
+use ssi_base::{Failed, Place, Sink, decimal, write_all, write_three, write_two};
 use ssi_lexer::LexFault;
 use ssi_names::{Fault, characters as characters_of};
-use ssi_script::{ScriptFault, write_three, write_two};
+use ssi_script::ScriptFault;
 
 /// The code of tokens that are no step.
 const MISSPELLED: u8 = 1;

@@ -9,8 +9,7 @@ ghost use Rattle.ssi_state.specs.Changes.{IsNextChange};
 ghost use Rattle.ssi_script.specs.Lines.{changes_of, fact_at, fact_text};
 ghost use Rattle.ssi_script.specs.WorkedChanges.{all_are, mixed, one_of_each};
 
-use crate::pieces::write_two;
-use ssi_base::{Failed, Sink};
+use ssi_base::{Failed, Sink, write_two};
 use ssi_cycle::Interlocking;
 use ssi_identities::{FactKind, fact_of};
 use ssi_image::Image;

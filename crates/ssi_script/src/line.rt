@@ -9,9 +9,8 @@ ghost use Rattle.ssi_identities.specs.DataSets.{Plan};
 ghost use Rattle.ssi_script.specs.Lines.{full_line, line_of, passed_text, taken_text, telegram_text};
 
 use crate::changes::write_changes;
-use crate::pieces::{write_three, write_two};
 use arrayvec::ArrayVec;
-use ssi_base::{Failed, OutOfMemory, Sink, decimal, hex4, write_all};
+use ssi_base::{Failed, OutOfMemory, Sink, decimal, hex4, write_all, write_three, write_two};
 use ssi_cycle::{Did, Interlocking};
 use ssi_identities::Kind;
 use ssi_image::Image;

@@ -1,5 +1,5 @@
 use Rattle.ssi_base.proofs.Writing.{joins}
-use Rattle.ssi_script.proofs.pieces.write_two.Goals as goal
+use Rattle.ssi_base.proofs.output.write_two.Goals as goal
 
 pub returns : goal.returns
 returns g c = search joins
