@@ -17,7 +17,8 @@ use Rattle.ssi_names.specs.NameLists.{is_among, with_name, set_of}
 use Rattle.ssi_names.specs.Placing.{ArePlaces}
 use Rattle.ssi_names.specs.SourceTexts.{SourceText}
 use Rattle.ssi_names.specs.Tables.{AreTablesOf}
-use Rattle.ssi_names.specs.Texts.{characters, number, value_of_digits, is_number_among}
+use Rattle.ssi_names.specs.Texts.{characters, number, is_number_among}
+use Rattle.ssi_lexer.specs.Lexemes.{value_of_digits}
 use Rattle.ssi_names.proofs.Distinct.{NoneAmong, both_false, other_way}
 use Rattle.ssi_names.proofs.Fine.{new_of, names_differ, no_faults}
 use Rattle.ssi_names.proofs.Sets.{or_false}

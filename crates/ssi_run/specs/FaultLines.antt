@@ -1,8 +1,9 @@
 -- The lines of faults: where the fault stands, its code, and the name, word or number that has it.
-use Rattle.std.specs.Prelude.{ℕ, ◌==◌, if◌then◌else◌, List, [], ◌++◌, codes, decimal, drop, take}
+use Rattle.std.specs.Prelude.{ℕ, ◌==◌, if◌then◌else◌, List, [], ◌++◌, codes, decimal}
 use Rattle.std.specs.List.{flat_map}
 use Rattle.ssi_base.specs.declared.place.Place.{Place}
 use Rattle.ssi_lexer.specs.declared.token.LexFault.{LexFault}
+use Rattle.ssi_lexer.specs.Lexemes.{characters_at}
 use Rattle.ssi_names.specs.declared.fault.Fault.{Fault}
 use Rattle.ssi_names.specs.Texts.{characters}
 use Rattle.ssi_script.specs.declared.step.ScriptFault.{ScriptFault}
@@ -35,7 +36,7 @@ name_fault_lines text faults = flat_map (name_fault_line text) faults
 -- what has the fault of a step: tokens that are no step tell none
 abbrev pub faulty_token : List ℕ → ScriptFault → List ℕ
 faulty_token text fault =
-    if fault.code == fault_codes.misspelled then [] else codes " " ++ take fault.token_len (drop fault.token_start text)
+    if fault.code == fault_codes.misspelled then [] else codes " " ++ characters_at text fault.token_start fault.token_len
 
 -- a step of the script has a fault
 abbrev pub script_fault_line : List ℕ → ScriptFault → List ℕ

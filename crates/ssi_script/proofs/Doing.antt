@@ -11,7 +11,7 @@ use Rattle.std.proofs.lemmas.Map.Keys.{IsDistinct-head, IsDistinct-tail}
 use Rattle.std.proofs.lemmas.Option.{slice_get_within}
 use Rattle.ssi_lexer.specs.declared.token.TextEnd.{TextEnd}
 use Rattle.ssi_lexer.specs.declared.token.Token.{Token}
-use Rattle.ssi_lexer.specs.Lexemes.{Lexeme}
+use Rattle.ssi_lexer.specs.Lexemes.{Lexeme, characters_at}
 use Rattle.ssi_lexer.specs.Parsers.{Outcome}
 use Rattle.ssi_lexer.specs.Readings.{Reading}
 use Rattle.ssi_identities.specs.declared.data_set.RequestRow.{RequestRow}
@@ -29,7 +29,7 @@ use Rattle.ssi_script.specs.declared.step.ScriptStep.{ScriptStep}
 use Rattle.ssi_script.specs.declared.step.ScriptStep.TheVariants as step
 use Rattle.ssi_script.specs.declared.step.StepTree.{StepTree}
 use Rattle.ssi_script.specs.declared.step.StepTree.TheVariants as tree
-use Rattle.ssi_script.specs.Meanings.{IsStepOf, Wire, characters, cycles_in, cycles_of, event_step, fault_of, identity_named, module_kind_of, module_step, module_told, most_cycles, or_fault, step_at_wire, step_of, wire_among, wire_at, with_found}
+use Rattle.ssi_script.specs.Meanings.{IsStepOf, Wire, cycles_in, cycles_of, event_step, fault_of, identity_named, module_kind_of, module_step, module_told, most_cycles, or_fault, step_at_wire, step_of, wire_among, wire_at, with_found}
 use Rattle.ssi_script.specs.Scripts.{AreSteps, IsScript, a_fault, a_script, no_header, no_step, the_end}
 use Rattle.ssi_script.specs.Scripts as script
 use Rattle.ssi_script.specs.StepReading.{IsNext, IsNextBy, a_step}
@@ -214,7 +214,7 @@ module _ (plan : Plan) (well : IsWell plan) where
     step_can : (made : ℕ) (t : StepTree) (s : ScriptStep) → IsOnPanel t → step_of plan text made t ≡ Ok s → IsStepOf plan s
     step_can made (tree.Panel panel request) s on e =
         let m = made_of ℕ ScriptStep (step.Panel panel) (identity_named plan text Request request) s e in
-        let name = characters text request in
+        let name = characters_at text request.start request.len in
         let within = named_by (names_in plan Request) name (fault_of 2 request) (fault_of 3 request) m.x (bytes_eq (take 1 name) (letter_of Request)) m.found in
         subst (IsStepOf plan) (sym m.is) (on, omega (arith, within, length-map plan.requests (λ (row : RequestRow). row.name)))
     step_can made (tree.Cycle count token) s on e = cycle_can (nat_lt most_cycles (made + count)) e

@@ -131,11 +131,11 @@ module _ (plan : Plan) (text : List ℕ) where
   found_in zero made left end = ([], None)
   found_in (suc n) made left end = if is_at_end left end then ([], None) else found_of (λ made rest. found_in n made rest end) end made (a_step left)
 
-  abbrev fault_at : Place → Found
-  fault_at place = ([], Some (misspelled_at place))
+  abbrev misspelled_here : Place → Found
+  misspelled_here place = ([], Some (misspelled_at place))
 
-  stopped_there : (a b : Place) → a ≡ b → fault_at a ≡ fault_at b
-  stopped_there a b e = ap fault_at e
+  stopped_there : (a b : Place) → a ≡ b → misspelled_here a ≡ misspelled_here b
+  stopped_there a b e = ap misspelled_here e
 
   found_is : (made : ℕ) (left : List Lexeme) (end : TextEnd) (steps : List ScriptStep) (fault : Option ScriptFault) → AreSteps plan text made left end steps fault
       → (n : ℕ) → length left < n → found_in n made left end ≡ (steps, fault)

@@ -26,8 +26,8 @@ use Rattle.ssi_script.specs.StepReading as spec
 use Rattle.ssi_script.proofs.StepWords.{AByte, a_byte, among, event_no_module, event_told, good_byte, good_number, module_told, no_other, number_one, number_small, number_told_is, number_zero, told_is, told_number, told_within}
 
 -- readers one after the other, whatever follows
-joined : (A B : Type 0) (p : Parser A) (q : Parser B) (S : A → List Lexeme → Type 0) (T : B → List Lexeme → Type 0) → Good A p S Always Always → Good B q T Always Always → Good (A × B) (p & q) (Both A B S T) Always Always
-joined A B p q S T g h = good_both A B p q S T Always Always Always Always (λ y v rest t k. tt) g h
+in_a_row : (A B : Type 0) (p : Parser A) (q : Parser B) (S : A → List Lexeme → Type 0) (T : B → List Lexeme → Type 0) → Good A p S Always Always → Good B q T Always Always → Good (A × B) (p & q) (Both A B S T) Always Always
+in_a_row A B p q S T g h = good_both A B p q S T Always Always Always Always (λ y v rest t k. tt) g h
 
 abbrev is_word : List ℕ → Lexeme → Bool
 is_word letters = word letters
@@ -44,7 +44,7 @@ abbrev FromName : Token × Token → List Lexeme → Type 0
 FromName = Both Token Token (One (of_kind k.Name)) (One dot)
 
 good_from_name : Good (Token × Token) (tok (of_kind k.Name) & tok dot) FromName Always Always
-good_from_name = joined Token Token (tok (of_kind k.Name)) (tok dot) (One (of_kind k.Name)) (One dot) good_name good_dot
+good_from_name = in_a_row Token Token (tok (of_kind k.Name)) (tok dot) (One (of_kind k.Name)) (One dot) good_name good_dot
 
 abbrev Numbered : ℕ → ℕ → Number → List Lexeme → Type 0
 Numbered least most = Valued Number (number_told least most)
@@ -53,7 +53,7 @@ abbrev FromNumber : ℕ → ℕ → Number × Token → List Lexeme → Type 0
 FromNumber least most = Both Number Token (Numbered least most) (One dot)
 
 good_from_number : (least most n : ℕ) → Good Number (valued (number_told least most)) (Numbered least most) Always Always → Good (Number × Token) (valued (number_told least most) & tok dot) (FromNumber least most) Always Always
-good_from_number least most n g = joined Number Token (valued (number_told least most)) (tok dot) (Numbered least most) (One dot) g good_dot
+good_from_number least most n g = in_a_row Number Token (valued (number_told least most)) (tok dot) (Numbered least most) (One dot) g good_dot
 
 -- ---- a put
 
@@ -88,9 +88,9 @@ good_put : Good StepTree spec.put APut Always Always
 unfolding spec.put
 good_put =
     good_mapped PutTokens StepTree put_of (tok (is_word (codes "panel")) & (valued (number_told 0 0) & (tok (of_kind k.Name) & tok dot))) PutText APut Always Always to_put from_put
-    (joined Token (Number × (Token × Token)) (tok (is_word (codes "panel"))) (valued (number_told 0 0) & (tok (of_kind k.Name) & tok dot)) (One (is_word (codes "panel"))) (Both Number (Token × Token) (Numbered 0 0) FromName)
+    (in_a_row Token (Number × (Token × Token)) (tok (is_word (codes "panel"))) (valued (number_told 0 0) & (tok (of_kind k.Name) & tok dot)) (One (is_word (codes "panel"))) (Both Number (Token × Token) (Numbered 0 0) FromName)
     (good_word (codes "panel"))
-    (joined Number (Token × Token) (valued (number_told 0 0)) (tok (of_kind k.Name) & tok dot) (Numbered 0 0) FromName (good_number 0 0 0 (omega arith) (omega arith) number_zero) good_from_name))
+    (in_a_row Number (Token × Token) (valued (number_told 0 0)) (tok (of_kind k.Name) & tok dot) (Numbered 0 0) FromName (good_number 0 0 0 (omega arith) (omega arith) number_zero) good_from_name))
 
 put_starts : (x : StepTree) (u : List Lexeme) → APut x u → StartsWith (is_word (codes "panel")) u
 put_starts x u (the_put w p q d e h m i) = record { first = w; others = p ∷ q ∷ d ∷ []; parts = refl; passes = e }
@@ -127,7 +127,7 @@ good_cycles : Good StepTree spec.some_cycles ACycle Always Always
 unfolding spec.some_cycles
 good_cycles =
     good_mapped CyclesTokens StepTree cycles_of (tok (is_word (codes "cycle")) & (valued (number_told 1 largest) & tok dot)) CyclesText ACycle Always Always to_cycles from_cycles
-    (joined Token (Number × Token) (tok (is_word (codes "cycle"))) (valued (number_told 1 largest) & tok dot) (One (is_word (codes "cycle"))) (FromNumber 1 largest) (good_word (codes "cycle"))
+    (in_a_row Token (Number × Token) (tok (is_word (codes "cycle"))) (valued (number_told 1 largest) & tok dot) (One (is_word (codes "cycle"))) (FromNumber 1 largest) (good_word (codes "cycle"))
     (good_from_number 1 largest 1 (good_number 1 largest 1 (omega arith) (omega arith) number_one)))
 
 cycles_start : (x : StepTree) (u : List Lexeme) → ACycle x u → StartsWith (is_word (codes "cycle")) u
@@ -162,7 +162,7 @@ good_event : Good StepTree spec.an_event AnEvent Always Always
 unfolding spec.an_event
 good_event =
     good_mapped EventTokens StepTree event_of (valued event_word_at & (tok (of_kind k.Name) & tok dot)) EventText AnEvent Always Always to_event from_event
-    (joined EventWord (Token × Token) (valued event_word_at) (tok (of_kind k.Name) & tok dot) (Valued EventWord event_word_at) FromName
+    (in_a_row EventWord (Token × Token) (valued event_word_at) (tok (of_kind k.Name) & tok dot) (Valued EventWord event_word_at) FromName
     (good_valued EventWord event_word_at (some_token k.Word (codes "occupy")) event.Occupy (event_told event.Occupy (some_token k.Word (codes "occupy")) (some_word (codes "occupy")))) good_from_name)
 
 -- ---- what becomes of a module
@@ -204,7 +204,7 @@ good_module : Good StepTree spec.at_a_module AtModule Always Always
 unfolding spec.at_a_module
 good_module =
     good_mapped ModuleTokens StepTree module_of (valued module_word_at & (valued (number_told 0 largest) & tok dot)) ModuleText AtModule Always Always to_module from_module
-    (joined ModuleWord (Number × Token) (valued module_word_at) (valued (number_told 0 largest) & tok dot) (Valued ModuleWord module_word_at) (FromNumber 0 largest)
+    (in_a_row ModuleWord (Number × Token) (valued module_word_at) (valued (number_told 0 largest) & tok dot) (Valued ModuleWord module_word_at) (FromNumber 0 largest)
     (good_valued ModuleWord module_word_at (some_token k.Word (codes "dead")) becomes.Dead (module_told becomes.Dead (some_token k.Word (codes "dead")) (some_word (codes "dead"))))
     (good_from_number 0 largest 0 good_address))
 
@@ -237,8 +237,8 @@ good_bytes : Good (List ℕ) spec.four_bytes FourBytes Always Always
 unfolding spec.four_bytes
 good_bytes =
     good_mapped (ℕ × (ℕ × (ℕ × ℕ))) (List ℕ) bytes_of (byte & (byte & (byte & byte))) FourText FourBytes Always Always to_bytes from_bytes
-    (joined ℕ (ℕ × (ℕ × ℕ)) byte (byte & (byte & byte)) AByte (Both ℕ (ℕ × ℕ) AByte (Both ℕ ℕ AByte AByte)) good_byte
-    (joined ℕ (ℕ × ℕ) byte (byte & byte) AByte (Both ℕ ℕ AByte AByte) good_byte (joined ℕ ℕ byte byte AByte AByte good_byte good_byte)))
+    (in_a_row ℕ (ℕ × (ℕ × ℕ)) byte (byte & (byte & byte)) AByte (Both ℕ (ℕ × ℕ) AByte (Both ℕ ℕ AByte AByte)) good_byte
+    (in_a_row ℕ (ℕ × ℕ) byte (byte & byte) AByte (Both ℕ ℕ AByte AByte) good_byte (in_a_row ℕ ℕ byte byte AByte AByte good_byte good_byte)))
 
 abbrev RawTokens : Type 0
 RawTokens = Token × (Number × (List ℕ × Token))
@@ -277,9 +277,9 @@ good_raw : Good StepTree spec.raw ARaw Always Always
 unfolding spec.raw
 good_raw =
     good_mapped RawTokens StepTree raw_of (tok (is_word (codes "raw")) & (valued (number_told 0 largest) & (spec.four_bytes & tok dot))) RawText ARaw Always Always to_raw from_raw
-    (joined Token (Number × (List ℕ × Token)) (tok (is_word (codes "raw"))) (valued (number_told 0 largest) & (spec.four_bytes & tok dot)) (One (is_word (codes "raw"))) (Both Number (List ℕ × Token) (Numbered 0 largest) FromBytes)
+    (in_a_row Token (Number × (List ℕ × Token)) (tok (is_word (codes "raw"))) (valued (number_told 0 largest) & (spec.four_bytes & tok dot)) (One (is_word (codes "raw"))) (Both Number (List ℕ × Token) (Numbered 0 largest) FromBytes)
     (good_word (codes "raw"))
-    (joined Number (List ℕ × Token) (valued (number_told 0 largest)) (spec.four_bytes & tok dot) (Numbered 0 largest) FromBytes good_address (joined (List ℕ) Token spec.four_bytes (tok dot) FourBytes (One dot) good_bytes good_dot)))
+    (in_a_row Number (List ℕ × Token) (valued (number_told 0 largest)) (spec.four_bytes & tok dot) (Numbered 0 largest) FromBytes good_address (in_a_row (List ℕ) Token spec.four_bytes (tok dot) FourBytes (One dot) good_bytes good_dot)))
 
 raw_starts : (x : StepTree) (u : List Lexeme) → ARaw x u → StartsWith (is_word (codes "raw")) u
 raw_starts x u (the_raw w a b c e f d address first second third fourth g h i j l m n) = record { first = w; others = a ∷ b ∷ c ∷ e ∷ f ∷ d ∷ []; parts = refl; passes = g }
@@ -393,4 +393,4 @@ pub good_header : Good (Unit {0}) header SpellsHeader Always Always
 unfolding header
 good_header =
     good_mapped (Token × Token) (Unit {0}) (λ _. tt) (tok (is_word (codes "file")) & tok is_run) HeaderText SpellsHeader Always Always to_header from_header
-    (joined Token Token (tok (is_word (codes "file"))) (tok is_run) (One (is_word (codes "file"))) (One is_run) (good_word (codes "file")) (good_tok is_run (some_token k.Name (codes "RUN")) (some_name (codes "RUN"))))
+    (in_a_row Token Token (tok (is_word (codes "file"))) (tok is_run) (One (is_word (codes "file"))) (One is_run) (good_word (codes "file")) (good_tok is_run (some_token k.Name (codes "RUN")) (some_name (codes "RUN"))))

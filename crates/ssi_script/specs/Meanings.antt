@@ -1,8 +1,9 @@
 -- What a step means in a layout: the numbers of what it names, or its fault.
-use Rattle.std.specs.Prelude.{ℕ, ◌+◌, ◌==◌, ◌<◌, ◌≡◌, nat_lt, if◌then◌else◌, List, [], ◌∷◌, length, take, drop, position, Option, Some, None, option_map, Result, Ok, Err}
+use Rattle.std.specs.Prelude.{ℕ, ◌+◌, ◌==◌, ◌<◌, ◌≡◌, nat_lt, if◌then◌else◌, List, [], ◌∷◌, length, take, position, Option, Some, None, option_map, Result, Ok, Err}
 use Rattle.std.specs.Str.{bytes_eq}
 use Rattle.ssi_base.specs.declared.place.Place.{Place}
 use Rattle.ssi_lexer.specs.declared.token.Token.{Token}
+use Rattle.ssi_lexer.specs.Lexemes.{characters_at}
 use Rattle.ssi_identities.specs.declared.fact.Kind.{Kind}
 use Rattle.ssi_identities.specs.declared.fact.Kind.TheVariants.{Request}
 use Rattle.ssi_identities.specs.DataSets.{ModulePlan, Plan, names_in}
@@ -49,10 +50,6 @@ fault_of code token = record { code = code; token_start = token.start; token_len
 abbrev pub misspelled_at : Place → ScriptFault
 misspelled_at place = record { code = fault_codes.misspelled; token_start = 0; token_len = 0; place = place }
 
--- the characters of a token
-abbrev pub characters : List ℕ → Token → List ℕ
-characters text token = take token.len (drop token.start text)
-
 -- what was found, or a fault
 abbrev pub or_fault : {A : Type 0} → ScriptFault → Option A → Result A ScriptFault
 or_fault fault None = Err fault
@@ -66,7 +63,7 @@ with_found f (Err fault) = Err fault
 -- the number of the identity of a kind that a token names: its first letter has to be the kind's, and it has to be declared
 abbrev pub identity_named : Plan → List ℕ → Kind → Token → Result ℕ ScriptFault
 identity_named plan text kind token =
-    let name = characters text token in
+    let name = characters_at text token.start token.len in
     if bytes_eq (take 1 name) (letter_of kind)
     then or_fault (fault_of fault_codes.unknown token) (number_of (names_in plan kind) name)
     else Err (fault_of fault_codes.wrong_kind token)

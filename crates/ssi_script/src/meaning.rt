@@ -8,6 +8,7 @@ ghost use Rattle.ssi_identities.specs.IdentityNames.{letter_of};
 ghost use Rattle.ssi_identities.specs.NameLists.{names_of};
 ghost use Rattle.ssi_identities.specs.Wells.{IsWell, wired_kind as kind_wired};
 ghost use Rattle.ssi_lexer.specs.declared.token.Token.{Token as NameToken};
+ghost use Rattle.ssi_lexer.specs.Lexemes.{characters_at};
 ghost use Rattle.ssi_script.specs.Meanings as spec;
 ghost use Rattle.ssi_script.specs.Meanings.{most_cycles, with_found};
 ghost use Rattle.ssi_script.specs.declared.step.ScriptStep.TheVariants.{Raw};
@@ -26,7 +27,7 @@ pub const MOST_CYCLES: u32 = 1_000_000;
 
 /// The characters of a token.
 fn characters(text: &[u8], token: Token) -> &[u8]
-    ensures { result.now ≡ spec.characters text.now token }
+    ensures { result.now ≡ characters_at text.now token.start token.len }
 {
     let start = (token.start as usize).min(text.len());
     let rest = &text[start..];
