@@ -39,7 +39,7 @@ mod words;
 
 pub use fault::{Fault, FaultList, ResolveFault};
 pub use name_set::NameSet;
-pub use resolving::resolve;
+pub use resolving::{laws_of_resolving, resolve};
 pub use source::{SourceTree, one_source_tree, read_source};
 pub use text::characters;
 

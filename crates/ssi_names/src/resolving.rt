@@ -1,12 +1,15 @@
 //! The data set of a text, or every fault of its names, words and numbers.
 
-ghost use Rattle.std.specs.Prelude.{◌≡◌, ◌≤◌, [], length};
+ghost use Rattle.std.specs.Prelude.{◌≡◌, ◌≤◌, ℕ, List, [], length};
+ghost use Rattle.ssi_identities.specs.Wells.{IsWell};
 ghost use Rattle.ssi_lexer.specs.Limits.{text_limit};
 ghost use Rattle.ssi_names.specs.Answers.{IsAnswer};
 ghost use Rattle.ssi_names.specs.Formed.{IsFormed};
 ghost use Rattle.ssi_names.specs.Faults.{faults_of};
 ghost use Rattle.ssi_names.specs.Spelled.{IsSpelledIn};
+ghost use Rattle.ssi_names.specs.Rows.{resolved};
 ghost use Rattle.ssi_names.specs.RuleRows.{AreRowsOf};
+ghost use Rattle.ssi_names.specs.SourceTexts.{SourceText};
 ghost use Rattle.ssi_names.specs.Tables.{AreTablesOf, table_of};
 
 use crate::fault::{FaultList, ResolveFault};
@@ -81,3 +84,9 @@ pub fn resolve(alloc: Global, text: &[u8], tree: &SourceTree) -> Result<DataSet,
         Err(OutOfMemory) => Err(ResolveFault::Memory),
     }
 }
+
+/// The data set of a text without faults is well, whether or not memory suffices to make it.
+pub fn laws_of_resolving()
+    ensures { (text : List ℕ) (tree : SourceText) → length text ≤ text_limit → IsSpelledIn text tree → faults_of text tree ≡ []
+        → IsWell (resolved text tree) }
+{}

@@ -7,6 +7,7 @@ use Rattle.ssi_base.specs.declared.outside.Failed.{Failed}
 use Rattle.ssi_base.specs.Faults.{Faults}
 use Rattle.ssi_base.specs.Streams.{GivesPast, ReadsToEnd, Writes}
 use Rattle.ssi_base.proofs.Reading.{whole_input, long_input}
+use Rattle.ssi_lexer.specs.declared.token.TextEnd.{TextEnd}
 use Rattle.ssi_lexer.specs.Spelling.{Finding, level_too_deep, no_spelling, no_token, taken}
 use Rattle.ssi_names.specs.SourceTexts.{SourceText}
 use Rattle.ssi_trackside.specs.Module.{ModuleState}
@@ -37,15 +38,15 @@ module _ (input : List ℕ) (shelf : List ModuleState) where
   tree_reads x (name_faults some) = refl
   tree_reads x (a_plan y none p) = script_reads input p.steps p.fault _ y p.answer_is
 
-  found_reads : {end : _} (found : Finding SourceText) (x : Answer) → OfFinding shelf (Tree input shelf) end found x → x.reading ≡ ToEnd
-  found_reads (taken tree behind) x t = tree_reads x t
-  found_reads (no_spelling place) x e = ap (λ (y : Answer). y.reading) e
-  found_reads (level_too_deep place) x e = ap (λ (y : Answer). y.reading) e
-  found_reads (no_token fault) x e = ap (λ (y : Answer). y.reading) e
+  found_reads : (end : TextEnd) (found : Finding SourceText) (x : Answer) → OfFinding shelf (Tree input shelf) end found x → x.reading ≡ ToEnd
+  found_reads end (taken tree behind) x t = tree_reads x t
+  found_reads end (no_spelling place) x e = ap (λ (y : Answer). y.reading) e
+  found_reads end (level_too_deep place) x e = ap (λ (y : Answer). y.reading) e
+  found_reads end (no_token fault) x e = ap (λ (y : Answer). y.reading) e
 
   -- a text within the limit is read to its end
   pub text_reads : (x : Answer) → RunsText input shelf x → x.reading ≡ ToEnd
-  text_reads x answers = found_reads answers.answered.found x answers.answered.answered
+  text_reads x answers = found_reads answers.end answers.answered.found x answers.answered.answered
 
 -- ---- inputs
 

@@ -5,6 +5,7 @@ use Rattle.std.specs.Io.KnownBytes.{IsAtEnd}
 use Rattle.std.proofs.KnownBytes.{Consumes-nil}
 use Rattle.ssi_base.specs.declared.outside.Failed.{Failed}
 use Rattle.ssi_base.specs.Streams.{GivesPast}
+use Rattle.ssi_lexer.specs.declared.token.TextEnd.{TextEnd}
 use Rattle.ssi_lexer.specs.Spelling.{Finding, level_too_deep, no_spelling, no_token, taken}
 use Rattle.ssi_names.specs.SourceTexts.{SourceText}
 use Rattle.ssi_trackside.specs.Module.{ModuleState}
@@ -107,19 +108,19 @@ module _ (command : Option Command) (shelf : List ModuleState) where
   tree_sort x (name_faults some) = has_faults refl refl refl
   tree_sort {input = input} x (a_plan y none p) = script_sort input p.steps p.fault _ y p.answer_is
 
-  found_sort : {input : List ℕ} {end : _} (found : Finding SourceText) (x : Answer) → OfFinding shelf (Tree input shelf) end found x → Sort command shelf x
-  found_sort (taken tree behind) x t = tree_sort x t
-  found_sort (no_spelling place) x e = fault_sort (syntax_line place) x e
-  found_sort (level_too_deep place) x e = fault_sort (depth_line place) x e
-  found_sort (no_token fault) x e = fault_sort (lexical_line fault) x e
+  found_sort : (input : List ℕ) (end : TextEnd) (found : Finding SourceText) (x : Answer) → OfFinding shelf (Tree input shelf) end found x → Sort command shelf x
+  found_sort input end (taken tree behind) x t = tree_sort x t
+  found_sort input end (no_spelling place) x e = fault_sort (syntax_line place) x e
+  found_sort input end (level_too_deep place) x e = fault_sort (depth_line place) x e
+  found_sort input end (no_token fault) x e = fault_sort (lexical_line fault) x e
 
-  run_sort : {input : List ℕ} (x : Answer) → Within input shelf (RunsText input shelf) x → Sort command shelf x
-  run_sort x (within y small answers) = found_sort answers.answered.found y answers.answered.answered
-  run_sort x (too_large past) = past_limit refl refl refl
+  run_sort : (input : List ℕ) (x : Answer) → Within input shelf (RunsText input shelf) x → Sort command shelf x
+  run_sort input x (within y small answers) = found_sort input answers.end answers.answered.found y answers.answered.answered
+  run_sort input x (too_large past) = past_limit refl refl refl
 
 sort_of : (command : Option Command) (input : List ℕ) (shelf : List ModuleState) (x : Answer) → Answers command input shelf x → Sort command shelf x
 sort_of None input shelf x e = no_shape refl (ap (λ (y : Answer). y.status) e) (ap (λ (y : Answer). y.reading) e) (ap (λ (y : Answer). y.left) e)
-sort_of (Some Run) input shelf x answers = run_sort (Some Run) shelf x answers
+sort_of (Some Run) input shelf x answers = run_sort (Some Run) shelf input x answers
 
 -- ---- laws
 

@@ -7,6 +7,7 @@ pub mod Replying
 pub mod Layers
 pub mod Ending
 pub mod EndingLaws
+pub mod Others
 pub mod OneAnswer
 pub mod SomeAnswer
 pub mod FaultTexts

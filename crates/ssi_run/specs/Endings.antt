@@ -57,10 +57,14 @@ HasRead Unread seen = seen.source.left_after ≡ seen.source.left_before
 HasRead ToEnd seen = ReadWithin seen × IsAtEnd seen.source.left_after
 HasRead TooMuch seen = GivesPast seen.source.left_before seen.source.left_after input_limit
 
+-- the source may have had this input
+abbrev pub IsInputOf : Seen → List ℕ → Type 0
+IsInputOf seen input = IfSome seen.source.left_before (λ all. input ≡ all)
+
 -- It is the answer to some input that the source may have had, and so much was read as it takes.
 pub record IsAnswerTo (command : Option Command) (seen : Seen) (answer : Answer) : Type 0 where
   pub input : List ℕ
-  pub is_input : IfSome seen.source.left_before (λ all. input ≡ all)
+  pub is_input : IsInputOf seen input
   pub is_answer : Answers command input seen.shelf_before answer
   pub has_read : HasRead answer.reading seen
 

@@ -4,6 +4,7 @@ pub mod Courses
 pub mod Answers
 pub mod Endings
 pub mod EndingLaws
+pub mod DataSetOf
 pub mod Outcomes
 pub mod Words
 pub mod FaultLines

@@ -12,6 +12,7 @@ ghost use Rattle.ssi_run.specs.Statuses.{failure_number, input_limit, number_aft
 ghost use Rattle.ssi_run.specs.Words.{command_of, texts};
 ghost use Rattle.ssi_run.specs.Answers.{HasAnswer, HasOneAnswer, HasOneStatus, Reads};
 ghost use Rattle.ssi_run.specs.Endings.{Ends, LeftModules, ReadWithin, Seen, SinkFailed, SourceFailed, WroteNothing};
+ghost use Rattle.ssi_run.specs.DataSetOf.{DrivesItsOwn};
 ghost use Rattle.ssi_run.specs.EndingLaws.{GivesAnswer, GivesPart, IsAnswered};
 
 use crate::input::run_input;
@@ -19,8 +20,8 @@ use crate::status::{Failure, Status, end_number, told};
 use crate::words::{Command, read_words};
 use ssi_base::{ReadAll, Sink, Source, read_all, write_all};
 use ssi_lexer::{TEXT_LIMIT, one_cutting};
-use ssi_names::one_source_tree;
-use ssi_script::one_script;
+use ssi_names::{laws_of_resolving, one_source_tree};
+use ssi_script::{one_script, others_stay};
 use ssi_trackside::Trackside;
 use std::alloc::Global;
 
@@ -130,7 +131,14 @@ pub fn laws_of_endings()
     ensures untouched { (command : Option Asked) (seen : Seen) (number : ℕ) → Ends command seen number
         → number ≢ number_of Done → number ≢ number_of BadScript → number ≢ failure_number failure.Sink → LeftModules seen }
 
+    // Members of the shelf that no module of the layout has are as they were, whatever the status.
+    ensures others { (command : Option Asked) (seen : Seen) (number : ℕ) → Ends command seen number → DrivesItsOwn seen }
+
     // Where no count rose, the answer is given, or memory ran out.
     ensures complete { (command : Option Asked) (seen : Seen) (number : ℕ) → Ends command seen number → ¬ SourceFailed seen → ¬ SinkFailed seen
         → (number ≡ failure_number failure.Memory) ⊎ IsAnswered number }
-{}
+{
+    laws_of_resolving();
+    one_script();
+    others_stay();
+}

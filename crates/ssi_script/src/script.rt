@@ -135,10 +135,12 @@ pub fn read_script(
     }
 }
 
-/// Any tokens and their end have one list of steps and one fault or none, in any layout.
+/// Any tokens and their end have one list of steps and one fault or none, in any layout; in a well one the steps can be done.
 pub fn one_script()
     ensures some { (plan : Plan) (text : List ℕ) (left : List Lexeme) (end : End)
         → (steps : List Step) × (fault : Option Fault) × IsScript plan text left end steps fault }
     ensures one { (plan : Plan) (text : List ℕ) (left : List Lexeme) (end : End) (a b : List Step) (e f : Option Fault)
         → IsScript plan text left end a e → IsScript plan text left end b f → (a ≡ b) × (e ≡ f) }
+    ensures can { (plan : Plan) (text : List ℕ) (left : List Lexeme) (end : End) (steps : List Step) (fault : Option Fault)
+        → IsWell plan → IsScript plan text left end steps fault → All (IsStepOf plan) steps }
 {}

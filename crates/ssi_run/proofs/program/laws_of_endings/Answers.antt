@@ -1,4 +1,5 @@
 use Rattle.ssi_run.proofs.EndingLaws.{answer, complete, no_shape_is, nothing_is, part_is, past_limit_is, shapeless, source_fault, to_end, untouched, within_is}
+use Rattle.ssi_run.proofs.Others.{drives_its_own}
 use Rattle.ssi_run.proofs.program.laws_of_endings.Goals as goal
 
 pub returns-clause-answer : goal.returns-clause-answer
@@ -36,3 +37,6 @@ returns-clause-untouched c = untouched
 
 pub returns-clause-complete : goal.returns-clause-complete
 returns-clause-complete c = complete
+
+pub returns-clause-others : goal.returns-clause-others
+returns-clause-others c = drives_its_own c.laws_of_resolving.ensures c.one_script.ensures.can c.others_stay.ensures.pieces c.others_stay.ensures.behind
