@@ -68,3 +68,7 @@ class LookCase(unittest.TestCase):
         self.look("-", "-o", "page.html", text=text, status=status)
         with open(os.path.join(self.folder, "page.html"), encoding="utf-8") as file:
             return file.read()
+
+    def assertShows(self, page, text):
+        """The page has the text. Where it hasn't, the page itself isn't printed, which would be long."""
+        self.assertTrue(text in page, f"the page doesn't show: {text}")

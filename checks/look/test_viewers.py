@@ -1,6 +1,7 @@
 """What `./look` writes, opened by programs that aren't ours: a browser, and a reader of value change dumps."""
 
 import os
+import re
 import subprocess
 import unittest
 
@@ -20,8 +21,8 @@ class Browser(LookCase):
             stdout=subprocess.PIPE, stderr=subprocess.DEVNULL, timeout=120,
         )
         markup = run.stdout.decode()
-        self.assertIn("</html>", markup)
-        self.assertNotIn("data-error", markup)
+        self.assertShows(markup, "</html>")
+        self.assertFalse("data-error" in markup, re.findall("data-error=[^>]*", markup))
         return markup
 
     def test_the_junction(self):
@@ -29,31 +30,31 @@ class Browser(LookCase):
         for width in ("1280,900", "420,800"):
             markup = self.shown("junction.html#258", f"--window-size={width}")
             for text in ("258 8201FE7D 42FF00BD -", "▶ proceed", "✓ P1 needs reverse", "clear, locked", "told to show"):
-                self.assertIn(text, markup)
-        self.assertIn("64 - - 0:Q1 P1:cr R1:s U1:l U2:l", self.shown("junction.html#64"))
-        self.assertIn("579 8300FF7C 43FF00BC -", self.shown("junction.html#579"))
+                self.assertShows(markup, text)
+        self.assertShows(self.shown("junction.html#64"), "64 - - 0:Q1 P1:cr R1:s U1:l U2:l")
+        self.assertShows(self.shown("junction.html#579"), "579 8300FF7C 43FF00BC -")
 
     def test_the_faults(self):
         self.look(example("junction_faults.ssi"), status=1)
         markup = self.shown("junction_faults.html")
-        self.assertIn("U-BRANCH may be meant", markup)
-        self.assertIn("What to do: ", markup)
+        self.assertShows(markup, "U-BRANCH may be meant")
+        self.assertShows(markup, "What to do: ")
 
     def test_a_fault_of_the_script(self):
         self.look(example("faults.ssi"), status=7)
         markup = self.shown("faults.html#66")
-        self.assertIn("R3 T-NEAR", markup)
-        self.assertIn("66 8201FE7D 42FF00BD -", markup)
+        self.assertShows(markup, "R3 T-NEAR")
+        self.assertShows(markup, "66 8201FE7D 42FF00BD -")
 
     def test_a_broken_junction(self):
         text = JUNCTION.replace("U3 f, U4 f then", "U3 f then").replace("panel 0 Q1 .", "panel 0 Q2 . panel 0 Q1 .")
         self.look("-", "-o", "broken.html", text=text)
-        self.assertIn("U3 f: U3 is locked", self.shown("broken.html"))
+        self.assertShows(self.shown("broken.html"), "U3 f: U3 is locked")
 
     def test_50_000_changes(self):
         text = layout("panel 0 Q1 . cycle 1 .\n" * 30_000, FLG="L1 .", PRR="Q1 if L1 s then L1 xs else L1 s end .")
         self.look("-", "-o", "long.html", text=text)
-        self.assertIn("24999 - - 0:Q1 L1:xs", self.shown("long.html#24999"))
+        self.assertShows(self.shown("long.html#24999"), "24999 - - 0:Q1 L1:xs")
 
     def test_markup_stays_text(self):
         text = layout(FLG="L1 . / <img src=x onerror=document.body.dataset.error=1>\nL1 .")
