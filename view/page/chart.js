@@ -49,6 +49,11 @@ class Chart {
     return (cycle - this.from) / this.perPixel;
   }
 
+  // The minor cycle at a place.
+  cycleOf(x) {
+    return Math.floor(this.from + x * this.perPixel + 0.001);
+  }
+
   showAll() {
     this.perPixel = this.widest();
     this.move(-1);
@@ -75,7 +80,17 @@ class Chart {
     this.onCursor(this.cursor);
   }
 
+  // Draws the chart before the next picture is shown, once, however often it was asked for.
   draw() {
+    if (this.asked) return;
+    this.asked = true;
+    requestAnimationFrame(() => {
+      this.asked = false;
+      this.drawNow();
+    });
+  }
+
+  drawNow() {
     const { context } = this.paint;
     context.clearRect(0, 0, this.canvas.width, this.canvas.height);
     const scrolled = this.lanes.scrollTop;
@@ -92,29 +107,32 @@ class Chart {
     this.drawAxis();
   }
 
+  // Of marks and of states that are narrower than a pixel one a pixel is drawn.
   drawMarks(lane, top) {
-    let last = -Infinity;
-    for (let number = lane.countTo(this.from - 10 * this.perPixel); number < lane.at.length; number += 1) {
+    let number = lane.countTo(this.from - 10 * this.perPixel);
+    while (number < lane.at.length) {
       const x = this.x(lane.at[number]);
       if (x > this.width + 10) break;
-      if (x - last < 1) continue;
       drawMark(this.paint, lane.values[number], x, top);
-      last = x;
+      number = Math.max(number + 1, lane.countTo(this.cycleOf(x + 1)));
     }
   }
 
   drawLane(lane, top) {
-    const end = this.x(this.run.last + 1);
+    const end = Math.min(this.x(this.run.last + 1), this.width);
     let number = lane.countTo(this.from);
-    let from = number ? this.x(lane.at[number - 1]) : this.x(-1);
-    let value = number ? lane.values[number - 1] : lane.start;
-    for (; from < this.width; number += 1) {
-      const to = number < lane.at.length ? this.x(lane.at[number]) : end;
-      if (to - from >= 1 || number >= lane.at.length) this.drawPiece(lane, value, from, Math.min(to, end), top);
-      else this.drawPiece(lane, lane.states.length > 1 ? 1 : 0, from, from + 1, top);
-      if (number >= lane.at.length) break;
-      from = Math.max(to, from);
-      value = lane.values[number];
+    let from = Math.max(this.x(-1), 0);
+    while (from < end) {
+      const to = number < lane.at.length ? Math.min(this.x(lane.at[number]), end) : end;
+      if (to - from >= 1 || to === end) {
+        this.drawPiece(lane, number ? lane.values[number - 1] : lane.start, from, to, top);
+        from = to;
+        number += 1;
+      } else {
+        this.drawPiece(lane, 1, from, from + 1, top);
+        from += 1;
+        number = lane.countTo(this.cycleOf(from));
+      }
     }
   }
 
@@ -138,8 +156,7 @@ class Chart {
     if (Math.min(right, this.width) - at < wide + 8) return;
     const solid = state.shape === "solid";
     context.fillStyle = this.paint.colour(solid ? name : "box");
-    const low = state.shape.startsWith("low");
-    const y = state.shape.startsWith("high") ? top + 17 : low ? top + 11 : top + 15;
+    const y = top + (state.shape.startsWith("high") ? 19 : state.shape.startsWith("low") ? 10 : 15);
     context.fillRect(at - 2, y - 9, wide + 4, 11);
     context.fillStyle = this.paint.colour(solid ? "box" : "fore");
     context.fillText(state.word, at, y);
@@ -180,7 +197,7 @@ class Chart {
   }
 
   cycleAt(event) {
-    return Math.floor(this.from + event.offsetX * this.perPixel + 0.001);
+    return this.cycleOf(event.offsetX);
   }
 
   onWheel(event) {

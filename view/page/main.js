@@ -80,8 +80,8 @@ function control(chart, run) {
 // The key of the shapes.
 function drawKey() {
   const shapes = [
-    ["solid", "tracks", "occupied"], ["hatch", "sub-routes", "locked"], ["stripes", "routes", "set"],
-    ["cross", "routes", "barred"], ["dots", "flags", "set"], ["chevrons", "signals", "told to show proceed"],
+    ["solid", "tracks", "occupied"], ["hatch", "sub-routes", "locked"], ["stripes", "routes", "route set"],
+    ["cross", "routes", "route barred"], ["dots", "flags", "flag set, or a bit that goes out is 1"], ["chevrons", "signals", "told to show proceed"],
     ["warn", "signals", "lamp not proved"], ["low", "points", "controlled or driven normal"],
     ["high", "points", "controlled or driven reverse"], ["low solid", "points", "detected normal"],
     ["high solid", "points", "detected reverse"], ["none", "points", "detected nowhere, or not driven"],

@@ -28,11 +28,16 @@ class Lane {
     this.start = start;
   }
 
-  // From this minor cycle on the value is this one.
+  // The value behind the last change so far.
+  get now() {
+    return this.at.length ? this.values[this.at.length - 1] : this.start;
+  }
+
+  // From this minor cycle on, which isn't before the last change, the value is this one.
   turn(cycle, value) {
     const last = this.at.length - 1;
     if (last >= 0 && this.at[last] === cycle) this.values[last] = value;
-    else if (value !== this.valueAt(cycle)) {
+    else if (value !== this.now) {
       this.at.push(cycle);
       this.values.push(value);
     }
@@ -159,7 +164,7 @@ class Run {
       if (number === 0 || name[0] !== "P") this.fact(name, aspect).turn(cycle, value);
       else {
         const lane = this.fact(name, "detected");
-        lane.turn(cycle, (lane.valueAt(cycle) & ~number) | (value ? number : 0));
+        lane.turn(cycle, (lane.now & ~number) | (value ? number : 0));
       }
     }
   }
