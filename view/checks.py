@@ -174,7 +174,7 @@ def shown_broken(broken, layout, text, line):
         "article",
         element("p", code(line), class_="told"),
         element("p", BREACHES[broken.breach]),
-        element("pre", marked_text(text, block, marks.marks), class_="rule"),
+        element("pre", marked_text(text, block, marks.marks), class_="own"),
         element("p", "At its begin this is true, and nothing else: ", facts),
         element("ul", *(element("li", one) for one in whose(layout, broken, marks)), class_="own"),
         class_="broken",

@@ -145,11 +145,11 @@ def judged(judge, expected):
         yield expected, reason
 
 
-def answer(name, text):
+def answer(name, text, progress):
     """`--expect`: prints what doesn't hold; 0 where all holds, 1 where something doesn't or there is a fault."""
     spelled = text.decode("latin-1")
     run = program.Program(["run"], text)
-    trace = Trace(run, program.Progress())
+    trace = Trace(run, progress)
     source = reader.read(spelled)
     if source.script_at is None:
         list(trace)

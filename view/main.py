@@ -36,19 +36,25 @@ def main(arguments=None):
         print(f"look: {refused}", file=sys.stderr)
         return UNREADABLE
     try:
-        if asked.faults:
-            return print_faults(asked, text)
-        if asked.expect:
-            return expect.answer(name_of(asked.file), text)
-        if asked.vcd:
-            return write_dump(asked, text)
-        return write_page(asked, text)
+        with program.Progress() as progress:
+            return answer(asked, text, progress)
     except BrokenPipeError:
         os.dup2(os.open(os.devnull, os.O_WRONLY), sys.stdout.fileno())
         return UNWRITABLE
     except OSError as refused:
         print(f"look: {refused}", file=sys.stderr)
         return UNWRITABLE
+
+
+def answer(asked, text, progress):
+    """The answer to the words."""
+    if asked.faults:
+        return print_faults(asked, text, progress)
+    if asked.expect:
+        return expect.answer(name_of(asked.file), text, progress)
+    if asked.vcd:
+        return write_dump(asked, text, progress)
+    return write_page(asked, text, progress)
 
 
 def read(name):
@@ -79,12 +85,12 @@ def write(path, written):
     print(path)
 
 
-def print_faults(asked, text):
+def print_faults(asked, text, progress):
     """`--faults`: the faults in their text."""
     run = program.Program(["run"], text)
-    trace = Trace(run, program.Progress())
-    for _ in trace:
-        pass
+    trace = Trace(run, progress)
+    list(trace)
+    progress.what = "the faults are looked up"
     spelled = text.decode("latin-1")
     told = faults.told(trace.faults, spelled)
     sys.stdout.reconfigure(errors="replace")
@@ -93,9 +99,10 @@ def print_faults(asked, text):
     return run.status
 
 
-def write_page(asked, text):
+def write_page(asked, text, progress):
     """The page of a run. Where `ssi` couldn't read, write or be built there is nothing to show."""
-    shown = show(name_of(asked.file), text, program.Progress())
+    shown = show(name_of(asked.file), text, progress)
+    progress.what = "the page is written"
     if shown.status in page.ENDINGS:
         write(target(asked, ".html"), page.page_of(shown))
     else:
@@ -113,8 +120,10 @@ def show(name, text, progress, ssi=None):
     if run.status not in (None, 0) or (first and is_of_layout(first)):
         list(trace)
         return page.Shown(name, spelled, run.status, faults.told(trace.faults, spelled), None, None, None)
+    progress.what = "the layout is read"
     source = reader.read(spelled)
     story = Story(source.layout).go(trace)
+    progress.what = "ssi checks"
     check = program.check_lines(text[: source.script_at], ssi)
     return page.Shown(name, spelled, run.status, faults.told(story.faults, spelled), source, story, check)
 
@@ -125,11 +134,11 @@ def is_of_layout(line):
     return fields[0] == b"fault" and not fields[2].startswith(b"R")
 
 
-def write_dump(asked, text):
+def write_dump(asked, text, progress):
     """`--vcd`: a value change dump."""
     run = program.Program(["run"], text)
     source = reader.read(text.decode("latin-1"))
-    trace = Trace(run, program.Progress())
+    trace = Trace(run, progress)
     written = "".join(dump.dump_of(source.layout, trace))
     if run.status not in (0, 7) or trace.cycles == 0:
         for fault in trace.faults:

@@ -13,6 +13,7 @@ from .words import ASPECTS, LIES
 FOLDER = os.path.join(os.path.dirname(os.path.abspath(__file__)), "page")
 SCRIPTS = ("run.js", "patterns.js", "chart.js", "panel.js", "lists.js", "main.js")
 FAULTS_SHOWN = 500
+MOST_REASONS = 40
 
 ENDINGS = {
     0: "the layout and its script have no fault",
@@ -164,7 +165,12 @@ def asked_data(asked: Asked):
     for event in asked.seen:
         if isinstance(event, Guarded):
             if not event.held:
-                why.append(event.why)
+                why.append(few(event.why))
         elif event.changed:
             did.append(f"{event.command.name} {event.command.word}")
-    return [asked.cycle, asked.panel, asked.request, asked.refused, why, did]
+    return [asked.cycle, asked.panel, asked.request, asked.refused, few(why), did]
+
+
+def few(reasons):
+    """The first reasons, where there are very many."""
+    return reasons if len(reasons) <= MOST_REASONS else reasons[:MOST_REASONS]

@@ -4,6 +4,7 @@ import os
 import subprocess
 import sys
 import tempfile
+import threading
 import time
 
 HERE = os.path.dirname(os.path.dirname(os.path.abspath(__file__)))
@@ -13,18 +14,24 @@ BROKEN_STATUS = 5
 
 
 class Progress:
-    """Says on standard error how far the work is, once a second, and nothing in the first second."""
+    """Says on standard error once a second what is being done, and nothing in the first second."""
 
-    def __init__(self, stream=None):
+    def __init__(self, what="ssi runs", stream=None):
+        self.what = what
         self._stream = stream or sys.stderr
-        self._begun = self._told = time.monotonic()
+        self._begun = time.monotonic()
+        self._over = threading.Event()
 
-    def tell(self, what):
-        """Says what is done, where a second has passed since it was said last."""
-        now = time.monotonic()
-        if now - self._told >= 1:
-            self._told = now
-            print(f"look: {now - self._begun:.0f} s, {what}", file=self._stream, flush=True)
+    def __enter__(self):
+        threading.Thread(target=self._say, daemon=True).start()
+        return self
+
+    def __exit__(self, *_):
+        self._over.set()
+
+    def _say(self):
+        while not self._over.wait(1):
+            print(f"look: {time.monotonic() - self._begun:.0f} s: {self.what}", file=self._stream, flush=True)
 
 
 class Program:

@@ -72,7 +72,7 @@ def points_table(layout, tables, commanders):
                 (
                     code(f"{points.name} {lie}"),
                     lines(code(track) for track in points.tracks),
-                    code(written.condition(free.condition)) if free else "no entry under PFM",
+                    code(written.short(written.condition(free.condition))) if free else "no entry under PFM",
                     lines(code(one) for one in who) if who else "nobody",
                 )
             )
@@ -88,7 +88,7 @@ def signal_table(layout):
         for bit in output.bits:
             for name, pin in module.pins:
                 if module.kind == "signal" and pin == bit.number:
-                    asks[name] = f"{output.address} bit {bit.number}", written.condition(bit.condition)
+                    asks[name] = f"{output.address} bit {bit.number}", written.short(written.condition(bit.condition))
     rows = []
     for signal in layout.signals:
         bit, condition = asks.get(signal, ("none", ""))
@@ -103,7 +103,7 @@ def bits_table(layout, tables):
     for output in layout.outputs:
         for bit in output.bits:
             says = outputs.bit_says(tables.modules[output.address], bit.number) or ""
-            rows.append((f"{output.address} bit {bit.number}", says, code(written.condition(bit.condition))))
+            rows.append((f"{output.address} bit {bit.number}", says, code(written.short(written.condition(bit.condition)))))
     return ("Bit", "As 1 it", "Is 1 where"), rows
 
 
@@ -114,8 +114,8 @@ def statement_table(layout):
         (
             number,
             number // share,
-            code(", ".join(written.command(one) for one in statement.commands)),
-            code(written.condition(statement.condition)),
+            code(written.short(", ".join(written.command(one) for one in statement.commands))),
+            code(written.short(written.condition(statement.condition))),
         )
         for number, statement in enumerate(layout.statements)
     ]

@@ -100,7 +100,7 @@ class Trace:
                 if told:
                     yield told
             if self._progress and not self.cycles & 0xFFF:
-                self._progress.tell(f"{self.cycles:,} minor cycles read")
+                self._progress.what = f"{self.cycles:,} minor cycles are read"
 
     def _told(self, line):
         """What a line that isn't idle tells; none for a fault, which is kept."""

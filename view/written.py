@@ -1,6 +1,8 @@
 """Conditions and commands written out again, in one line and without comments."""
 
-from .layout import Bit, Choice, Test, commands_of
+from .layout import Bit, Choice, Test
+
+LONGEST = 2_000
 
 
 def condition(items):
@@ -29,41 +31,40 @@ def path(guards):
     return ", ".join(condition(guard) if held else f"not ({condition(guard)})" for guard, held in guards)
 
 
-def paths_to(body, name, word, before=()):
-    """For each command `name word` of a body the guards on the way to it, as (condition, whether it has to hold)."""
-    for part in body:
-        if isinstance(part, Choice):
-            yield from paths_to(part.then_body, name, word, (*before, (part.guard, True)))
-            yield from paths_to(part.else_body or [], name, word, (*before, (part.guard, False)))
-        elif part.name == name and part.word == word:
-            yield before
+def short(text):
+    """A piece of the language as it is shown: cut off where it is very long."""
+    if len(text) <= LONGEST:
+        return text
+    return f"{text[:LONGEST]} … and {len(text) - LONGEST:,} characters more"
 
 
 class Commanders:
-    """Who commands what: found once for the whole layout."""
+    """Who commands what, and under which guards: found in one walk through the whole layout."""
 
     def __init__(self, layout):
         self._of = {}
         for request in layout.requests:
-            for one in commands_of(request.body):
-                self._add(one, (request.name, request.body))
+            self._walk(request.name, request.body, ())
         for number, statement in enumerate(layout.statements):
-            body = [Choice(statement.condition, statement.commands, None, statement.at, statement.end)]
             for one in statement.commands:
-                self._add(one, (f"statement {number}", body))
+                self._add(f"statement {number}", one, ((statement.condition, True),))
         for entry in layout.inputs:
-            for one in commands_of(entry.body):
-                self._add(one, (f"report of {entry.address}", entry.body))
+            self._walk(f"report of {entry.address}", entry.body, ())
 
-    def _add(self, one, who):
+    def _walk(self, who, body, guards):
+        """Goes through a body, which stands behind these guards: pairs of a condition and whether it has to hold."""
+        for part in body:
+            if isinstance(part, Choice):
+                self._walk(who, part.then_body, (*guards, (part.guard, True)))
+                self._walk(who, part.else_body or [], (*guards, (part.guard, False)))
+            else:
+                self._add(who, part, guards)
+
+    def _add(self, who, one, guards):
         known = self._of.setdefault((one.name, one.word), [])
-        if all(who[0] != other[0] for other in known):
-            known.append(who)
+        if not known or known[-1] != (who, guards):
+            known.append((who, guards))
 
     def of(self, name, word):
-        """Who commands `name word`, and under which conditions: (who, what it tests)."""
-        return [
-            (who, path(guards))
-            for who, body in self._of.get((name, word), [])
-            for guards in paths_to(body, name, word)
-        ]
+        """Who commands `name word`, and what has to hold for it."""
+        return [(who, short(path(guards))) for who, guards in self._of.get((name, word), [])]

@@ -61,7 +61,7 @@ class Requests {
   deeds(did, known) {
     const cell = piece("td", "");
     if (did.length) cell.append(piece("code", "own", did.join(", ")));
-    else cell.textContent = known ? "changed nothing" : "";
+    else if (known) cell.append(piece("span", "own", "changed nothing"));
     return cell;
   }
 }
