@@ -18,6 +18,7 @@ from .words import KINDS
 PAGE = os.path.join(HERE, "docs", "FAULTS.md")
 NAMES_GUESSED = 50
 MOST_WANTED = 8
+WIDEST = 160
 
 
 class Advice(NamedTuple):
@@ -59,6 +60,8 @@ def plain(markdown):
 
 def told(faults: List[Fault], text):
     """The faults that `ssi` told, with notes of this page, and behind a fault of spelling its guesses."""
+    if not faults:
+        return []
     source = reader.read(text, on=True)
     lines = tokens.Lines(text)
     slips = [(*lines.place(slip.token.at), slip) for slip in source.slips]
@@ -69,7 +72,7 @@ def told(faults: List[Fault], text):
         if number < NAMES_GUESSED:
             notes = notes_of(fault, slips, names)
         shown.append(Told(fault.line, fault.column, fault.code, fault.token, fault.text, False, notes))
-    if faults and is_spelling(faults[-1]) and agrees(faults[-1], slips):
+    if is_spelling(faults[-1]) and agrees(faults[-1], slips):
         shown += [guess_of(*slip) for slip in slips[1:]]
     return shown
 
@@ -118,9 +121,19 @@ def meant(name, declared):
     return [f"{' or '.join(near)} may be meant"] if near else []
 
 
+def excerpt(line, column):
+    """A line and a column in it; of a long line a piece around the column."""
+    if len(line) <= WIDEST:
+        return line, column
+    begin = max(column - 1 - WIDEST // 2, 0)
+    before = "... " if begin else ""
+    behind = " ..." if begin + WIDEST < len(line) else ""
+    return before + line[begin : begin + WIDEST] + behind, column - begin + len(before)
+
+
 def marked(line, column, lines):
     """A line of the text and a line with a mark below its column, as they are shown."""
-    text = lines.line(line).rstrip("\r")
+    text, column = excerpt(lines.line(line).rstrip("\r"), column)
     before = tokens.shown(text[: column - 1])
     return tokens.shown(text), "".join("\t" if character == "\t" else " " for character in before) + "^"
 

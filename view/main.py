@@ -119,6 +119,7 @@ def show(name, text, progress, ssi=None):
     trace = Trace(itertools.chain([] if first is None else [first], lines), progress)
     if run.status not in (None, 0) or (first and is_of_layout(first)):
         list(trace)
+        progress.what = "the faults are looked up"
         return page.Shown(name, spelled, run.status, faults.told(trace.faults, spelled), None, None, None)
     progress.what = "the layout is read"
     source = reader.read(spelled)

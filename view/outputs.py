@@ -8,6 +8,7 @@ number alone.
 from typing import NamedTuple, Optional
 
 DRIVES = ("none", "normal", "reverse", "both")
+LEVELS = ("l", "h")
 
 
 class Named(NamedTuple):
@@ -45,7 +46,7 @@ def named(module, at_pin, number):
         return Named(at_pin[number], module.address, number, 1, ("stop", "proceed"))
     if module.kind == "points" and number // 2 in at_pin:
         return Named(at_pin[number // 2], module.address, number // 2 * 2, 2, DRIVES)
-    return Named(f"{module.address}.{number}", module.address, number, 1, ("l", "h"))
+    return Named(f"{module.address}.{number}", module.address, number, 1, LEVELS)
 
 
 def bit_says(module, number) -> Optional[str]:

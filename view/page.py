@@ -111,8 +111,8 @@ def fault_item(fault, lines, advice):
 
 def marked_line(fault, lines):
     """The line of a fault with its place marked: the token that has it, or one character."""
-    line = lines.line(fault.line).rstrip("\r")
-    at = fault.column - 1
+    line, column = faults.excerpt(lines.line(fault.line).rstrip("\r"), fault.column)
+    at = column - 1
     length = max(len(fault.token), 1)
     here = line[at : at + length] or " "
     return joined(
@@ -143,7 +143,7 @@ def run_data(story):
         "aspects": {kind: [list(aspect) for aspect in aspects] for kind, aspects in ASPECTS.items()},
         "names": layout.names(),
         "modules": [[module.address, module.kind, module.pins] for module in layout.modules],
-        "outputs": [list(output) for output in outputs.of_layout(layout)],
+        "outputs": [output_data(output) for output in outputs.of_layout(layout)],
         "routes": [
             {
                 "name": route.name,
@@ -155,6 +155,12 @@ def run_data(story):
         "lines": story.kept,
         "asked": [asked_data(asked) for asked in story.asked],
     }
+
+
+def output_data(output):
+    """An output, with the words in which the page says its values."""
+    words = ("low", "high") if output.words == outputs.LEVELS else output.words
+    return [output.name, output.address, output.low_bit, output.width, words]
 
 
 def asked_data(asked: Asked):

@@ -99,7 +99,7 @@ class Trace:
                 told = self._told(line.decode("latin-1").rstrip("\n"))
                 if told:
                     yield told
-            if self._progress and not self.cycles & 0xFFF:
+            if self._progress and self.cycles and not self.cycles & 0xFFF:
                 self._progress.what = f"{self.cycles:,} minor cycles are read"
 
     def _told(self, line):

@@ -80,6 +80,12 @@ class Reading(unittest.TestCase):
         line, mark = faults.marked(2, 8, tokens.Lines(text))
         self.assertEqual((line, mark), ("\tL1 é x", "\t     ^"))
 
+    def test_of_a_long_line_a_piece_is_shown(self):
+        lines = tokens.Lines("x" * 5000 + "#" + "y" * 5000)
+        line, mark = faults.marked(1, 5001, lines)
+        self.assertLess(len(line), 200)
+        self.assertEqual(line[mark.index("^")], "#")
+
 
 class Advising(unittest.TestCase):
     def test_every_code_has_its_words(self):

@@ -7,7 +7,25 @@ import unittest
 
 from common import LookCase, example, find, layout, text_of
 
+from view import main, page, program
+
 JUNCTION = text_of(example("junction.ssi"))
+
+# A layout with one of each kind, and a script in which all of it changes.
+EVERY = {
+    "PTS": "P1 over T1 .",
+    "SIG": "S1 .",
+    "TCS": "T1 .",
+    "RTE": "R1 from S1 by U1 .",
+    "SUB": "U1 on T1 with P1 cr .",
+    "FLG": "L1 .",
+    "TFM": "1 points P1 at 0 .\n2 signal S1 at 0 .\n3 track T1 at 0 .",
+    "PRR": "Q1 R1 s, R1 xa, U1 l, L1 s, P1 cr .\nQ2 if L1 xs then L1 s end .",
+    "OPT": "1 bit 0 if P1 cn bit 1 if P1 cr .\n2 bit 0 if R1 s .\n3 bit 5 if L1 s .",
+    "IPT": "1 if 0 h then P1 dn else P1 xdn end, if 1 h then P1 dr else P1 xdr end .\n"
+    "2 if 0 h then S1 lp else S1 xlp end .\n3 if 0 h then T1 c else T1 o end .",
+}
+EVERY_SCRIPT = "cycle 4 . panel 0 Q1 . panel 0 Q2 . cycle 64 . lose 3 . raw 1 0 0 0 0 . cycle 256 . dead 3 . cycle 64 ."
 
 
 class Browser(LookCase):
@@ -55,6 +73,28 @@ class Browser(LookCase):
         text = layout("panel 0 Q1 . cycle 1 .\n" * 30_000, FLG="L1 .", PRR="Q1 if L1 s then L1 xs else L1 s end .")
         self.look("-", "-o", "long.html", text=text)
         self.assertShows(self.shown("long.html#24999"), "24999 - - 0:Q1 L1:xs")
+
+    def test_each_kind_has_its_lane(self):
+        text = layout(EVERY_SCRIPT, **EVERY)
+        self.look("-", "-o", "every.html", text=text)
+        markup = self.shown("every.html")
+        labels = re.findall('<div class="name" title="([^"]*)"', markup)
+        self.assertEqual(labels, [
+            "T1", "S1 lamp", "S1 told", "P1 controlled", "P1 detected", "P1 driven", "R1", "R1 barred", "U1", "L1",
+            "Q1", "Q2", "3.5 told", "1 report", "3 report",
+        ])
+        for group in ("tracks", "signals", "points", "routes", "sub-routes", "flags", "requests", "telegrams"):
+            self.assertShows(markup, f'<div class="group">{group}</div>')
+
+    def test_the_check(self):
+        broken = JUNCTION.replace("U3 f, U4 f then", "U3 f then").encode()
+        shown = main.show("broken", broken, program.Progress())
+        answer = ["broken Q1 2 conflict P1:cr U4:l", "wide Q3 131089", "kept 10 of 12"]
+        with open(os.path.join(self.folder, "check.html"), "w", encoding="utf-8") as file:
+            file.write(page.page_of(shown._replace(check=answer)))
+        markup = self.shown("check.html")
+        self.assertShows(markup, '<a href="#check">The check</a>')
+        self.assertShows(markup, "U1 and U4 are locked, all on T2")
 
     def test_markup_stays_text(self):
         text = layout(FLG="L1 . / <img src=x onerror=document.body.dataset.error=1>\nL1 .")

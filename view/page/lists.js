@@ -93,7 +93,7 @@ class Outputs {
     const holder = piece("td", "");
     holder.append(telegram);
     const bits = width === 2 ? `${low} and ${low + 1}` : String(low);
-    line.append(piece("td", "", String(address)), holder, piece("td", "", bits), piece("td", "own", says), now, since);
+    line.append(piece("td", "", String(address)), holder, piece("td", "", bits), piece("td", says ? "own" : "", says || "the bit is"), now, since);
     return { lane: this.run.lanes.get(`out ${address} ${low}`), slot: address, line, telegram, now, since };
   }
 
