@@ -27,6 +27,25 @@ EVERY = {
 }
 EVERY_SCRIPT = "cycle 4 . panel 0 Q1 . panel 0 Q2 . cycle 64 . lose 3 . raw 1 0 0 0 0 . cycle 256 . dead 3 . cycle 64 ."
 
+# Uses the page by its keys, buttons and filter, and tells what its line says each time.
+HANDS = """
+const told = [];
+const tell = () => told.push(byId("line").textContent);
+const press = (key, more) => document.dispatchEvent(new KeyboardEvent("keydown", { key, bubbles: true, ...more }));
+press("ArrowRight"); tell();
+press("ArrowRight", { shiftKey: true }); tell();
+press("ArrowLeft"); tell();
+byId("back").click(); tell();
+press("Home"); tell();
+for (const key of ["+", "+", "PageDown", "PageUp", "-", "0"]) press(key);
+press("End"); tell();
+byId("filter").value = "t2";
+byId("filter").dispatchEvent(new Event("input"));
+told.push([...document.querySelectorAll("#labels div")].map((label) => label.textContent).join());
+document.querySelector("#requests button").click(); tell();
+document.body.dataset.told = told.join(" | ");
+"""
+
 
 class Browser(LookCase):
     def shown(self, page, *words):
@@ -73,6 +92,20 @@ class Browser(LookCase):
         text = layout("panel 0 Q1 . cycle 1 .\n" * 30_000, FLG="L1 .", PRR="Q1 if L1 s then L1 xs else L1 s end .")
         self.look("-", "-o", "long.html", text=text)
         self.assertShows(self.shown("long.html#24999"), "24999 - - 0:Q1 L1:xs")
+
+    def test_keys_buttons_and_the_filter(self):
+        self.look(example("junction.ssi"))
+        path = os.path.join(self.folder, "junction.html")
+        with open(path, encoding="utf-8") as file:
+            written = file.read()
+        with open(path, "w", encoding="utf-8") as file:
+            file.write(written.replace("begin();\n\n</script>", f"begin();\n{HANDS}</script>"))
+        (told,) = re.findall('data-told="([^"]*)"', self.shown("junction.html"))
+        self.assertEqual(told.split(" | "), [
+            "65 8102FD7E 4104FBBE - P1:xdn", "66 8200FF7D 42FF00BD -", "65 8102FD7E 4104FBBE - P1:xdn",
+            "64 - - 0:Q1 P1:cr R1:s U1:l U2:l", "the start: no minor cycle was made yet", "639 - - -",
+            "tracks,T2", "64 - - 0:Q1 P1:cr R1:s U1:l U2:l",
+        ])
 
     def test_each_kind_has_its_lane(self):
         text = layout(EVERY_SCRIPT, **EVERY)

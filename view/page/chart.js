@@ -71,6 +71,11 @@ class Chart {
     this.draw();
   }
 
+  // Moves by half of what is seen, back or on.
+  pan(step) {
+    this.move(this.from + (step * this.width * this.perPixel) / 2);
+  }
+
   // Sets the cursor, and moves the view so that it is seen.
   setCursor(cycle) {
     this.cursor = Math.max(-1, Math.min(cycle, this.run.last));

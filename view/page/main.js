@@ -63,10 +63,12 @@ function control(chart, run) {
     all: () => chart.showAll(),
     before: () => chart.setCursor(chart.cursor - 1),
     behind: () => chart.setCursor(chart.cursor + 1),
+    left: () => chart.pan(-1),
+    right: () => chart.pan(1),
   };
   for (const name of ["first", "back", "forth", "last", "in", "out", "all"]) byId(name).addEventListener("click", moves[name]);
   byId("filter").addEventListener("input", (event) => chart.fill(event.target.value));
-  const keys = { Home: "first", End: "last", "+": "in", "=": "in", "-": "out", "−": "out", 0: "all" };
+  const keys = { Home: "first", End: "last", "+": "in", "=": "in", "-": "out", "−": "out", 0: "all", PageUp: "left", PageDown: "right" };
   document.addEventListener("keydown", (event) => {
     if (event.target.tagName === "INPUT" || event.ctrlKey || event.altKey || event.metaKey) return;
     const arrows = { ArrowLeft: event.shiftKey ? "before" : "back", ArrowRight: event.shiftKey ? "behind" : "forth" };
