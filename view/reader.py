@@ -265,12 +265,13 @@ def read_points(cursor, layout):
 def name_reader(letter, where):
     """`X .`, for the files whose entries are names alone."""
 
-    def read(cursor, layout):
+    def read_name(cursor, layout):
+        """Reads one."""
         name = cursor.name(letter)
         cursor.mark(".")
         getattr(layout, where).append(name)
 
-    return read
+    return read_name
 
 
 def read_route(cursor, layout):
@@ -303,6 +304,7 @@ def read_module(cursor, layout):
     letter = MODULE_KINDS[kind]
 
     def pin(at):
+        """`X at N`."""
         name = at.name(letter)
         at.word("at")
         return name, at.number("a pin's number")
@@ -487,8 +489,18 @@ class Reading:
                 return None
             name = cursor.take().text
             return name if name in FILES else FILES[wanted]
+        if wanted == 0:
+            return self.first_header()
         self.behind_the_next_dot()
-        return FILES[max(wanted - 1, 0)]
+        return FILES[wanted - 1]
+
+    def first_header(self):
+        """The first file of a text that doesn't begin with one; none where it has none."""
+        cursor = self.cursor
+        while cursor.next.kind != "end":
+            if cursor.take().text == "file" and cursor.next.text in FILES:
+                return cursor.take().text
+        return None
 
     def entries(self, file):
         """The entries of a file, and whether the reading goes on behind them."""

@@ -63,12 +63,6 @@ class Lines:
         line = bisect.bisect_right(self._begins, at)
         return line, at - self._begins[line - 1] + 1
 
-    def offset(self, line, column):
-        """The byte at a line and a column; the end of the text where there is none."""
-        if not 1 <= line <= len(self._begins):
-            return len(self.text)
-        return min(self._begins[line - 1] + column - 1, len(self.text))
-
     def line(self, number):
         """A line of the text without its end; nothing past the last."""
         if not 1 <= number <= len(self._begins):

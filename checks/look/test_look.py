@@ -6,7 +6,7 @@ import re
 import subprocess
 import unittest
 
-from common import BUILT, LOOK, LookCase, example, layout, text_of
+from common import BUILT, LookCase, example, layout, text_of
 
 from view import reader, tokens
 

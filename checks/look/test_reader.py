@@ -2,10 +2,9 @@
 
 import unittest
 
-from common import FILES, example, layout, text_of
+from common import example, layout, text_of
 
 from view import faults, reader, tokens, values, words
-from view.layout import Choice, Test
 from view.trace import Fault
 
 LONGEST = "L-ABCDEFGHIJ0123"
@@ -63,6 +62,10 @@ class Reading(unittest.TestCase):
         slips = reader.read(text, on=True).slips
         self.assertEqual([(slip.code, slip.token.text, slip.wanted) for slip in slips], [("S1", "TCS", ["`SIG`"])])
 
+    def test_something_stands_before_the_first_file(self):
+        slips = reader.read("L1 . " + layout(FLG="L1 x ."), on=True).slips
+        self.assertEqual([(slip.code, slip.token.text) for slip in slips], [("S1", "L1"), ("S1", "x")])
+
     def test_every_cut_off_text_is_one_slip_at_its_end(self):
         text = layout(FLG="L1 .", PRR="Q1 if L1 s then L1 xs end .")
         for end in range(text.index("file IPT")):
@@ -90,8 +93,9 @@ class Reading(unittest.TestCase):
 class Advising(unittest.TestCase):
     def test_every_code_has_its_words(self):
         advice = faults.read_advice()
-        codes = ["L1", "L2", "L3", "S1", "S2", *(f"N{number}" for number in range(1, 13)), "R1", "R2", "R3", "R4"]
-        for code in codes:
+        codes = {"L1", "L2", "L3", "S1", "S2", *(f"N{number}" for number in range(1, 13)), "R1", "R2", "R3", "R4"}
+        self.assertLessEqual(codes, set(advice))
+        for code in advice:
             self.assertTrue(advice[code].means, code)
             self.assertTrue(advice[code].to_do, code)
 
@@ -135,8 +139,6 @@ class Valuing(unittest.TestCase):
     def test_an_else_counts_as_refused(self):
         layout_, scene = self.scene(FLG="L1 . L2 .", PRR="Q1 if L1 s then L2 s else L2 xs end, L1 s .")
         self.assertTrue(values.is_refused(values.run(layout_.requests[0].body, scene)))
-        self.assertIsInstance(layout_.requests[0].body[0], Choice)
-        self.assertIsInstance(layout_.requests[0].body[0].guard[0], Test)
 
 
 class Slots(unittest.TestCase):
@@ -144,7 +146,6 @@ class Slots(unittest.TestCase):
         source = reader.read(layout(FLG="L1 .", FOP="L1 s if L1 xs .\n" * 65))
         counts = [len(source.layout.statements_of(slot)) for slot in range(64)]
         self.assertEqual(counts, [2] * 32 + [1] + [0] * 31)
-        self.assertEqual(len(FILES), 12)
 
 
 if __name__ == "__main__":

@@ -1,6 +1,4 @@
 // The time chart: a lane for each identity that changes, and a cursor.
-"use strict";
-
 class Chart {
   constructor(run, onCursor) {
     this.run = run;

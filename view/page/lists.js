@@ -1,11 +1,8 @@
 // Two lists: the requests that were taken, with why they were refused, and the commands that go out.
-"use strict";
-
 const AT_ONCE = 200;
 
 class Requests {
   constructor(place, goTo) {
-    this.place = place;
     this.goTo = goTo;
     this.shown = 0;
     const table = piece("table", "");
@@ -42,7 +39,8 @@ class Requests {
     name.append(piece("code", "", `${panel}:${request}`));
     const known = refused !== null;
     const word = piece("td", "");
-    word.append(piece("span", known ? `own ${refused ? "refused" : "taken"}` : "", known ? (refused ? "✗ refused" : "◆ taken") : "◇ not explained"));
+    if (!known) word.textContent = "◇ not explained";
+    else word.append(refused ? piece("span", "own refused", "✗ refused") : piece("span", "own taken", "◆ taken"));
     line.append(first, name, word, this.reasons(why, known), this.deeds(did, known));
     return line;
   }

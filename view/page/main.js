@@ -1,6 +1,4 @@
 // The page put together: the cursor, its keys and buttons, and the parts that follow it.
-"use strict";
-
 const byId = (name) => document.getElementById(name);
 
 function begin() {

@@ -1,6 +1,4 @@
 // The routes' panel: each route as its row of tracks in order, from its signal, at the cursor.
-"use strict";
-
 class Panel {
   constructor(run, place) {
     this.run = run;

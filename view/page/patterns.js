@@ -1,6 +1,4 @@
 // How a state is drawn: by its shape and its pattern, and only besides by its colour.
-"use strict";
-
 const LANE = 22;
 
 function colour(name) {
